@@ -6,7 +6,7 @@ import dataclasses
 from auditing.jobs import Entry, Fault, Job
 from auditing.replicas import Change, Lent, PageFault, Replica, Stands, Stop, Trap, View
 from journals import Free, Part, Put, Scrub, Take, Vote
-from kernel import PAGE, Atomic, Blocked, Call, Done, Effect, Kernel, Parked, opening_kernel
+from kernel import PAGE, THREADS, Atomic, Blocked, Call, Done, Effect, Kernel, Parked, opening_kernel
 
 
 class Illegal(Exception):
@@ -86,13 +86,6 @@ def verdict(views: list) -> tuple[int, tuple[int, ...]] | None:
     return None
 
 
-@dataclasses.dataclass
-class Streak:
-    """Whose votes came last, and how many since the last vote or free of another thread."""
-    thread: int
-    votes: int
-
-
 class Core:
     def __init__(self, job: Job):
         self.job = job
@@ -107,7 +100,7 @@ class Core:
         self.blocked: dict[int, Call] = {}  # by thread, the voted call on which it is blocked
         self.steps = 0
         self.scrubbed = 0  # the steps at the last scrub
-        self.streak = Streak(0, 0)
+        self.waited = [0] * THREADS  # by thread, how many votes of others came since it was itself voted on or freed
         self.output = b""
         self.wrote = 0  # how many bytes the last entry's event wrote
         self.due: str | None = None  # an end that must come next
@@ -334,9 +327,8 @@ class Core:
         self.copies += [self.copy(entry.thread, won.winner, loser) for loser in won.losers]
         for loser in won.losers:
             self.replicas[loser].become(self.replicas[won.winner])
-        if self.streak.thread != entry.thread:
-            self.streak = Streak(entry.thread, 0)
-        self.streak.votes += 1
+        self.waited = [waited + 1 for waited in self.waited]
+        self.waited[entry.thread] = 0
         self.occur(entry.thread, self.added(won), won.event)
 
     def copy(self, thread: int | None, winner: int, loser: int) -> Copy:
@@ -350,8 +342,7 @@ class Core:
     def free(self, thread: int):
         needs(self.may_free(thread), "the thread can't be freed")
         needs(self.steps + 1 <= self.job.limit, "it passes the limit")
-        if self.streak.thread != thread:
-            self.streak = Streak(thread, 0)
+        self.waited[thread] = 0
         event = self.call_event(thread, self.blocked[thread], b"")
         self.occur(thread, STEPS[event.did], event)
 
@@ -387,9 +378,13 @@ class Core:
         self.wrote, self.due, self.ended = 0, None, how
 
     def ends_alone(self, how: str) -> bool:
-        """Whether the end comes of no entry: nothing can be done, or a sink took a part of the last write alone."""
+        """Whether the end comes of no entry: nothing can be done, or a sink failed."""
+        return how == "deadlock" and self.is_stuck() or self.ends_sink(how)
+
+    def ends_sink(self, how: str) -> bool:
+        """Whether the end says that a sink took a part of the last write alone."""
         kind, *numbers = how.split(" ")
-        return kind == "deadlock" and self.is_stuck() or kind == "sink" and self.is_going() and int(numbers[0]) < self.wrote
+        return kind == "sink" and self.is_going() and int(numbers[0]) < self.wrote
 
     def is_stuck(self) -> bool:
         threads = range(len(self.kernel.lives))

@@ -7,42 +7,48 @@ from journals import End, Free, Put, Scrub, Take, Vote
 # What is done next is a word and the numbers that go with it: `lend` a replica and a thread, `vote` and `free` a thread, `scrub`,
 # `end` how, `wait`, `over`.
 Action = tuple
-VOTES_IN_A_ROW = 64  # that a thread may have while another one could go on
+PATIENCE = 64  # for how many votes of others a thread waits before it comes first, where something can be done for it
 
 
 def is_scrub_due(core: Core) -> bool:
     return core.job.scrub != 0 and core.scrubbed + core.job.scrub <= core.steps
 
 
-def turns(core: Core) -> tuple[list[int], list[int]]:
-    """All threads but the one that had its votes in a row, and then that one."""
-    last = core.streak.thread if core.streak.votes >= VOTES_IN_A_ROW else None
-    threads = range(len(core.kernel.lives))
-    return [thread for thread in threads if thread != last], [thread for thread in threads if thread == last]
-
-
-def lend_turn(core: Core, threads: list[int]) -> list[Action]:
+def leases_of(core: Core, threads: list[int]) -> list[Action]:
     """The lowest of these threads of the lowest replica that can be lent, if one can."""
     places = ((number, thread) for number in range(len(core.replicas)) for thread in threads)
     lowest = next((place for place in places if core.is_lendable(*place)), None)
     return [("lend", *lowest)] if lowest else []
 
 
+def turns_of(core: Core, threads: list[int]) -> list[Action]:
+    """The lowest vote on one of these threads, and else their lowest lease, if there is any."""
+    votes = [("vote", thread) for thread in threads if core.may_vote(thread)]
+    return votes[:1] or leases_of(core, threads)
+
+
+def urgent_turn(core: Core) -> list[Action]:
+    """What can be done for the thread that has waited longest of those that have waited too long, the lowest of several."""
+    overdue = [thread for thread in range(len(core.kernel.lives)) if core.waited[thread] >= PATIENCE]
+    turns = (turns_of(core, [thread]) for thread in sorted(overdue, key=lambda thread: -core.waited[thread]))
+    return next(filter(None, turns), [])
+
+
 def next_action(core: Core) -> Action:
-    """A free comes first, and a thread that had its votes in a row last; of the others, and of that one, a vote comes before a
-    lease. No vote and no free comes before a scrub that is due."""
+    """A free comes first, then a thread that has waited too long, then the lowest vote, and the lowest lease. While a scrub is due
+    there are leases alone, the lowest first."""
     if core.ended is not None:
         return ("over",)
     if core.due is not None:
         return "end", core.due
-    is_due = is_scrub_due(core)
-    found = [] if is_due else [("free", thread) for thread in range(len(core.kernel.lives)) if core.may_free(thread)]
-    for threads in turns(core):
-        found += [] if is_due or found else [("vote", thread) for thread in threads if core.may_vote(thread)]
-        found += [] if found else lend_turn(core, threads)
+    threads = list(range(len(core.kernel.lives)))
+    if is_scrub_due(core):
+        found = leases_of(core, threads)
+    else:
+        found = [("free", thread) for thread in threads if core.may_free(thread)] or urgent_turn(core) or turns_of(core, threads)
     if found:
         return found[0]
-    return ("wait",) if core.leases else ("scrub",) if is_due else ("end", "deadlock")
+    return ("wait",) if core.leases else ("scrub",) if is_scrub_due(core) else ("end", "deadlock")
 
 
 def is_next(core: Core, entry: Entry) -> bool:
@@ -51,7 +57,7 @@ def is_next(core: Core, entry: Entry) -> bool:
         return True
     action = next_action(core)
     if isinstance(entry, End):
-        return action == ("end", entry.how) or core.ends_alone(entry.how) or ends_in_place(core, action, entry.how)
+        return action == ("end", entry.how) or core.ends_sink(entry.how) or ends_in_place(core, action, entry.how)
     wanted = {Take: lambda: ("lend", entry.replica, entry.thread), Vote: lambda: ("vote", entry.thread),
               Free: lambda: ("free", entry.thread), Scrub: lambda: ("scrub",)}
     return action == wanted[type(entry)]()

@@ -18,7 +18,7 @@ use Rattle.ro_peer.specs.declared.mutexes.Mutex.{Mutex}
 use Rattle.ro_peer.specs.declared.peers.Peer.{Peer as PeerOf}
 use Rattle.ro_peer.specs.Peers.{Peer}
 use Rattle.ro_peer.specs.Seen.{peer_of}
-use Rattle.ro_legal.specs.Streaks.{no_streak}
+use Rattle.ro_legal.specs.Waits.{AreWaits, NotesWaits}
 use Rattle.ro_legal.specs.Sides.{opening_side, peer_with}
 use Rattle.ro_legal.specs.Core.{Job, Core, opening_replicas}
 use Rattle.ro_legal.specs.Core.{opening_core as opening_voted}
@@ -138,10 +138,10 @@ none-retired job thread unstruck =
 
 pub opening-holds : (f : Fields) → IsCalm f.job → f.journal ≡ [] → AreFirst f.job.program.image f.job.settings.watchdog f.seats → length f.seats ≡ f.job.settings.replicas
     → f.leases ≡ [] → f.kernel.setup ≡ setup_of f.job.program → f.kernel.kernel ≡ opening_kernel f.job.program.image.heap → f.cooperates ≡ not (has_otherwise f.job.program.image.calls.addresses functions)
-    → f.blocked ≡ replicate 16 None → f.most_done ≡ replicate 16 no_steps → f.steps ≡ 0 → f.streak ≡ no_streak → f.due ≡ None → f.ended ≡ None → f.sent ≡ 0 → f.wrote ≡ 0
+    → f.blocked ≡ replicate 16 None → f.most_done ≡ replicate 16 no_steps → f.steps ≡ 0 → AreWaits f.waits (λ thread. 0) × (f.waits.votes ≡ 0) → f.due ≡ None → f.ended ≡ None → f.sent ≡ 0 → f.wrote ≡ 0
     → length f.views ≡ f.job.settings.replicas → 1 ≤ f.places → Holds f
 unfolding opening_core opening_voted
-opening-holds f calm journal first count leases setup kernel cooperates blocked most steps streak due ended sent wrote views room =
+opening-holds f calm journal first count leases setup kernel cooperates blocked most steps waits due ended sent wrote views room =
     let core : replay f.job f.journal ≡ opening_core f.job = ap (replay f.job) journal in
     record {
       calm = calm;
@@ -155,7 +155,7 @@ opening-holds f calm journal first count leases setup kernel cooperates blocked 
       most_count = ap length most;
       most_are = λ t. ap (λ (ns : List ℕ). slice_index_or ns t 0) most ∙ (nothing-done 16 t ∙ (sym (none-retired f.job t calm.unstruck) ∙ sym (ap (λ (x : Core). most_done x.replicas t) core)));
       steps_are = steps ∙ sym (ap (λ (x : Core). x.steps) core);
-      streak_is = streak ∙ sym (ap (λ (x : Core). x.streak) core);
+      waits_are = subst (λ (x : Core). NotesWaits f.waits x.waited (length f.journal)) (sym core) (record { are = waits.0; few = let none = waits.1 in omega arith });
       counts = record {
         sent_are = sent ∙ ap (λ (x : Core). length x.output) (sym core);
         wrote_is = wrote ∙ ap (λ (x : Core). x.wrote) (sym core);

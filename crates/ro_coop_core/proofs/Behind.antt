@@ -16,8 +16,8 @@ use Rattle.ro_kernel.specs.State.{State}
 use Rattle.ro_orders.specs.Choices.{chosen_of}
 use Rattle.ro_peer.specs.declared.mutexes.Mutex.{Mutex}
 use Rattle.ro_replica.specs.Replica.{Replica}
-use Rattle.ro_legal.specs.declared.actions.Streak.{Streak}
-use Rattle.ro_legal.specs.Streaks.{after_event}
+use Rattle.ro_legal.specs.declared.actions.Waits.{Waits}
+use Rattle.ro_legal.specs.Waits.{AreWaits, NotesWaits, Notes, waited_behind}
 use Rattle.ro_legal.specs.Sides.{Side}
 use Rattle.ro_legal.specs.Core.{Job, Core, is_going}
 use Rattle.ro_legal.specs.Event.{Event}
@@ -37,7 +37,7 @@ use Rattle.ro_coop_core.specs.Runs.{fields_of, job_of, state_of, payload_by, Las
 use Rattle.ro_coop_core.specs.Amid.{Occurrence, CanOccur, entering_of, event_of}
 use Rattle.ro_legal.proofs.TogetherJournals.{replay_more, legal_more}
 use Rattle.ro_coop_core.proofs.Keeping.{keeps-replicas, keeps-mutexes}
-use Rattle.ro_coop_core.proofs.Held.{Goes, goes, no-views, no-outcome, holds-step}
+use Rattle.ro_coop_core.proofs.Held.{Goes, goes, no-views, no-outcome, length-more, holds-step}
 use Rattle.ro_coop_core.proofs.AtHome.{seated-home, home-count}
 use Rattle.ro_coop_core.proofs.Lapsing.{for-either}
 use Rattle.ro_coop_core.proofs.Makes.{sides-many, ready-home}
@@ -234,6 +234,12 @@ module _ (r : Run) (o : Occurrence) (can : CanOccur r o) where
       let sides = length-mapped (side_served o.thread (entered_of entering)) core.sides in
       omega (arith, new.0, new.1, old.0, old.1)
 
+  -- ---- how long threads wait
+
+  -- so many votes were held at most
+  pub occurs-votes : r.waits.votes ≤ length r.journal.items
+  occurs-votes = let few = h.waits_are.few in let same = ap (λ (x : Run). x.waits.votes) can.is in let long = ap (λ (x : Run). length x.journal.items) can.is in omega arith
+
   -- ---- the fields behind it
 
   module _ (f' : Fields) (job : f'.job ≡ f.job) (journal : f'.journal ≡ f.journal ++ o.entry ∷ []) (due : f'.due ≡ o.event.due) where
@@ -246,8 +252,8 @@ module _ (r : Run) (o : Occurrence) (can : CanOccur r o) where
     }
 
     pub occurs-holds : AreHome f.job r.kernel.kernel (replicas_after o.event.effect (entered_of entering) core.replicas core.sides) (map (side_served o.thread (entered_of entering)) core.sides) f'.seats → f'.leases ≡ r.leases.items → f'.kernel ≡ r.kernel → f'.cooperates ≡ r.cooperates → f'.blocked ≡ slice_set r.blocked o.thread o.event.blocked → f'.most_done ≡ r.most_done
-        → f'.steps ≡ r.steps + o.steps → f'.streak ≡ after_event r.streak o.thread (blocked_at r.blocked o.thread) → f'.ended ≡ r.ended → f'.views ≡ r.views.items → f'.sent ≡ r.sent + length payload → f'.wrote ≡ length payload → 1 ≤ f'.places → Holds f'
-    occurs-holds home leases kernel cooperates blocked most steps streak ended views sent wrote room = holds-step f f' o.entry h can.allowed (record {
+        → f'.steps ≡ r.steps + o.steps → Notes r.waits f'.waits o.thread (blocked_at r.blocked o.thread) → f'.ended ≡ r.ended → f'.views ≡ r.views.items → f'.sent ≡ r.sent + length payload → f'.wrote ≡ length payload → 1 ≤ f'.places → Holds f'
+    occurs-holds home leases kernel cooperates blocked most steps waits ended views sent wrote room = holds-step f f' o.entry h can.allowed (record {
       job = job;
       journal = journal;
       leases = leases ∙ ap (λ (x : Run). x.leases.items) can.is ∙ h.leases_are ∙ sym (ap (λ (c : Core). c.leases) can.came);
@@ -260,7 +266,11 @@ module _ (r : Run) (o : Occurrence) (can : CanOccur r o) where
       most_count = ap length most ∙ ap (λ (x : Run). length x.most_done) can.is ∙ h.most_count;
       most = λ t. ap (λ (ns : List ℕ). slice_index_or ns t 0) most ∙ ap (λ (x : Run). slice_index_or x.most_done t 0) can.is ∙ h.most_are t ∙ sym (most-same o.event.effect entered core.replicas core.sides t (sides-many f h)) ∙ sym (ap (λ (c : Core). most_done c.replicas t) can.came);
       steps = steps ∙ ap (λ (n : ℕ). n + o.steps) steps-are ∙ ap (λ (n : ℕ). core.steps + n) can.counted ∙ sym (ap (λ (c : Core). c.steps) can.came);
-      streak = streak ∙ ap (λ (x : Run). after_event x.streak o.thread (blocked_at x.blocked o.thread)) can.is ∙ ap (λ (s : Streak). after_event s o.thread (blocked_at f.blocked o.thread)) h.streak_is ∙ ap (after_event core.streak o.thread) (h.blocked_are o.thread) ∙ sym (ap (λ (c : Core). c.streak) can.came);
+      waits = subst (λ (c : Core). NotesWaits f'.waits c.waited (length f'.journal)) (sym can.came) (record {
+        are = subst (λ (b : Option Call). AreWaits f'.waits (waited_behind core.waited o.thread b)) (ap (λ (x : Run). blocked_at x.blocked o.thread) can.is ∙ h.blocked_are o.thread)
+            (waits.waits core.waited (subst (λ (w : Waits). AreWaits w core.waited) (sym (ap (λ (x : Run). x.waits) can.is)) h.waits_are.are));
+        few = let few = h.waits_are.few in let most = waits.most in let same = ap (λ (x : Run). x.waits.votes) can.is in let more = ap length journal ∙ length-more f.journal o.entry in omega arith;
+      });
       counts = subst (CountsBytes f'.sent f'.wrote f'.steps) (sym can.came) (counts sent wrote steps);
       due = due ∙ sym (ap (λ (c : Core). c.due) can.came);
       ended = ended ∙ ap (λ (x : Run). x.ended) can.is ∙ h.ended_is ∙ sym (ap (λ (c : Core). c.ended) can.came);

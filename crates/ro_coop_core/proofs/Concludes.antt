@@ -26,11 +26,11 @@ module _ (f : Fields) (h : Holds f) (how : How) (going : is_going (core_in f) �
     unfolding after
     conclude-output = ap (λ (c : Core). c.output) (replay_more f.job f.journal (End how)) ∙ cut-none (core_in f) how not_sink
 
-    pub conclude-holds : (f' : Fields) → f'.job ≡ f.job → f'.kernel ≡ f.kernel → f'.cooperates ≡ f.cooperates → f'.blocked ≡ f.blocked → f'.most_done ≡ f.most_done → f'.steps ≡ f.steps → f'.streak ≡ f.streak → f'.seats ≡ f.seats → f'.leases ≡ f.leases → f'.due ≡ f.due → f'.ended ≡ Some how → f'.sent ≡ f.sent → f'.wrote ≡ 0
+    pub conclude-holds : (f' : Fields) → f'.job ≡ f.job → f'.kernel ≡ f.kernel → f'.cooperates ≡ f.cooperates → f'.blocked ≡ f.blocked → f'.most_done ≡ f.most_done → f'.steps ≡ f.steps → f'.waits ≡ f.waits → f'.seats ≡ f.seats → f'.leases ≡ f.leases → f'.due ≡ f.due → f'.ended ≡ Some how → f'.sent ≡ f.sent → f'.wrote ≡ 0
         → f'.journal ≡ f.journal ++ End how ∷ [] → f.places ≡ f'.places + 1 → KeepsViews f.job (f.journal ++ End how ∷ []) f'.views → Holds f'
     unfolding after
-    conclude-holds f' job kernel cooperates blocked most steps streak seats leases due ended sent wrote journal less kept =
-        ended-holds f f' h how concluding.not_ended allowed (same-counts f f' h (after f.job (core_in f) (End how)) (cut-none (core_in f) how not_sink) refl sent wrote (omega arith)) kept job kernel cooperates blocked most steps streak seats leases (due ∙ concluding.not_due) ended journal less
+    conclude-holds f' job kernel cooperates blocked most steps waits seats leases due ended sent wrote journal less kept =
+        ended-holds f f' h how concluding.not_ended allowed (same-counts f f' h (after f.job (core_in f) (End how)) (cut-none (core_in f) how not_sink) refl sent wrote (omega arith)) kept job kernel cooperates blocked most steps waits seats leases (due ∙ concluding.not_due) ended journal less
 
 -- an end writes nothing
 pub ended-wrote : (old new : Run) (how : How) → Appends (seen old) (seen new) (End how) → (replay (job_of new) new.journal.items).output ≡ (replay (job_of old) old.journal.items).output → LastWrote (fields_of new) (replay (job_of old) old.journal.items).output []

@@ -10,7 +10,7 @@ use Rattle.ro_event.specs.declared.calls.Call.{Call}
 use Rattle.ro_kernel.specs.State.{State}
 use Rattle.ro_legal.specs.Core.{Job, Core}
 use Rattle.ro_legal.specs.declared.actions.Action.TheVariants.{End as DoEnd}
-use Rattle.ro_legal.specs.Legal.{EndsAlone, cut_output}
+use Rattle.ro_legal.specs.Legal.{EndsAlone, EndsSink, cut_output}
 use Rattle.ro_legal.specs.Legal.{MayEnd as MayEndVoted, due as due_voted, alone as alone_voted, for_vote as for_vote_voted, for_free as for_free_voted, for_scrub}
 use Rattle.ro_legal.specs.Cooperative.{after, MayEnd, due, alone}
 use Rattle.ro_legal.specs.Action.{next_action}
@@ -25,7 +25,7 @@ use Rattle.ro_legal.proofs.Journals.{outcome_of-append}
 use Rattle.ro_legal.proofs.Ordered.{going-parts}
 use Rattle.ro_legal.proofs.Nexts.{end_next, end_is}
 use Rattle.ro_coop_core.proofs.Keeping.{keeps-replicas}
-use Rattle.ro_coop_core.proofs.Held.{not-differ, no-outcome, holds-step}
+use Rattle.ro_coop_core.proofs.Held.{not-differ, no-outcome, same-waits, length-more, holds-step}
 
 -- a seat behind an end
 end-seat : (job : Job) (core : Core) (number : ℕ) (seat : Seat) (how : How) → IsSeated job core number seat → IsSeated job (after job core (End how)) number seat
@@ -53,10 +53,10 @@ end-seated job core seats how h = record {
 
 -- the fields behind an end
 pub ended-holds : (f f' : Fields) → Holds f → (how : How) → f.ended ≡ None → MayEnd f.job (core_in f) how → CountsBytes f'.sent f'.wrote f'.steps (after f.job (core_in f) (End how)) → KeepsViews f.job (f.journal ++ End how ∷ []) f'.views
-    → f'.job ≡ f.job → f'.kernel ≡ f.kernel → f'.cooperates ≡ f.cooperates → f'.blocked ≡ f.blocked → f'.most_done ≡ f.most_done → f'.steps ≡ f.steps → f'.streak ≡ f.streak → f'.seats ≡ f.seats → f'.leases ≡ f.leases → f'.due ≡ None → f'.ended ≡ Some how
+    → f'.job ≡ f.job → f'.kernel ≡ f.kernel → f'.cooperates ≡ f.cooperates → f'.blocked ≡ f.blocked → f'.most_done ≡ f.most_done → f'.steps ≡ f.steps → f'.waits ≡ f.waits → f'.seats ≡ f.seats → f'.leases ≡ f.leases → f'.due ≡ None → f'.ended ≡ Some how
     → f'.journal ≡ f.journal ++ End how ∷ [] → f.places ≡ f'.places + 1 → Holds f'
 unfolding after
-ended-holds f f' h how none allowed counts kept job kernel cooperates blocked most steps streak seats leases over ended journal less = holds-step f f' (End how) h (sym h.ended_is ∙ none, allowed) (record {
+ended-holds f f' h how none allowed counts kept job kernel cooperates blocked most steps waits seats leases over ended journal less = holds-step f f' (End how) h (sym h.ended_is ∙ none, allowed) (record {
   job = job;
   journal = journal;
   leases = leases ∙ h.leases_are;
@@ -68,7 +68,7 @@ ended-holds f f' h how none allowed counts kept job kernel cooperates blocked mo
   most_count = ap length most ∙ h.most_count;
   most = λ t. ap (λ (ns : List ℕ). slice_index_or ns t 0) most ∙ h.most_are t;
   steps = steps ∙ h.steps_are;
-  streak = streak ∙ h.streak_is;
+  waits = same-waits f f' h (after f.job (core_in f) (End how)) refl waits (ap length journal ∙ length-more f.journal (End how));
   counts = counts;
   due = over;
   ended = ended;
@@ -131,13 +131,13 @@ module _ (f : Fields) (h : Holds f) (how : How) (now : Comes f.job (core_in f) h
   ended-none : f.ended ≡ None
   ended-none = h.ended_is ∙ end-not-over
 
-  -- it is allowed, and next
-  pub end-allowed : MayEnd f.job (core_in f) how × IsNext f.job (core_in f) (End how)
+  -- it is allowed
+  pub end-allowed : MayEnd f.job (core_in f) how
   end-allowed = by now
     where
-      by : Comes f.job (core_in f) how → MayEnd f.job (core_in f) how × IsNext f.job (core_in f) (End how)
-      by (inl next) = (next-ends f.job (core_in f) how next, inl next)
-      by (inr e) = (alone e, inr (inl e))
+      by : Comes f.job (core_in f) how → MayEnd f.job (core_in f) how
+      by (inl next) = next-ends f.job (core_in f) how next
+      by (inr e) = alone e
 
   -- an end that comes next is an exit, a trap or a deadlock; one that comes alone a deadlock or a failing sink's
   next-over : next_action f.job (core_in f) ≡ DoEnd how → IsOver how ⊎ (how ≡ Deadlock)
@@ -214,6 +214,11 @@ module _ (f : Fields) (h : Holds f) (how : How) (now : Comes f.job (core_in f) h
       by (Sink taken) e = end-counts-sink taken sent e (cut taken e)
       by so e = kept (λ taken g. let k : so ≡ Sink taken = sym e ∙ g in cc)
 
-  pub end-holds : (f' : Fields) → CountsBytes f'.sent f'.wrote f'.steps (after f.job (core_in f) (End how)) → f'.job ≡ f.job → f'.kernel ≡ f.kernel → f'.cooperates ≡ f.cooperates → f'.blocked ≡ f.blocked → f'.most_done ≡ f.most_done → f'.steps ≡ f.steps → f'.streak ≡ f.streak → f'.seats ≡ f.seats → f'.leases ≡ f.leases → f'.due ≡ None → f'.ended ≡ Some how
+  pub end-holds : (f' : Fields) → CountsBytes f'.sent f'.wrote f'.steps (after f.job (core_in f) (End how)) → f'.job ≡ f.job → f'.kernel ≡ f.kernel → f'.cooperates ≡ f.cooperates → f'.blocked ≡ f.blocked → f'.most_done ≡ f.most_done → f'.steps ≡ f.steps → f'.waits ≡ f.waits → f'.seats ≡ f.seats → f'.leases ≡ f.leases → f'.due ≡ None → f'.ended ≡ Some how
       → f'.journal ≡ f.journal ++ End how ∷ [] → f.places ≡ f'.places + 1 → Holds f'
-  end-holds f' counts = ended-holds f f' h how ended-none end-allowed.0 counts (not-differ f.job _ f'.views how (outcome_of-append f.journal (End how ∷ []) (no-outcome f h ended-none)) not-by-views)
+  end-holds f' counts = ended-holds f f' h how ended-none end-allowed counts (not-differ f.job _ f'.views how (outcome_of-append f.journal (End how ∷ []) (no-outcome f h ended-none)) not-by-views)
+
+-- one that is next, or that of a failing sink, comes next
+pub comes-next : (job : Job) (core : Core) (how : How) → (next_action job core ≡ DoEnd how) ⊎ EndsSink core how → IsNext job core (End how)
+comes-next job core how (inl next) = inl next
+comes-next job core how (inr sink) = inr (inl sink)

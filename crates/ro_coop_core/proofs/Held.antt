@@ -1,5 +1,5 @@
 -- The fields of a run behind one entry more.
-use Rattle.std.proofs.Common.{◌≡◌, ℕ, ◌+◌, ◌≤◌, true, List, [], ◌∷◌, ◌++◌, length, Some, None, sym, ap, ◌∙◌, subst, arith}
+use Rattle.std.proofs.Common.{◌≡◌, ℕ, suc, ◌+◌, ◌≤◌, true, List, [], ◌∷◌, ◌++◌, length, length-append, Some, None, sym, ap, ◌∙◌, subst, arith}
 use Rattle.std.specs.Prelude.{not, slice_index_or}
 use Rattle.ro_journal.specs.declared.How.{How}
 use Rattle.ro_journal.specs.declared.How.TheVariants.{Limit, Differ}
@@ -12,6 +12,8 @@ use Rattle.ro_plain.specs.Machine.{setup_of}
 use Rattle.ro_orders.specs.Choices.{has_otherwise}
 use Rattle.ro_legal.specs.Core.{Job, Core, is_going}
 use Rattle.ro_legal.specs.Cooperative.{after, IsAllowed, Legal, replay, most_done}
+use Rattle.ro_legal.specs.declared.actions.Waits.{Waits}
+use Rattle.ro_legal.specs.Waits.{NotesWaits}
 use Rattle.ro_coop_core.specs.Seen.{KeepsViews}
 use Rattle.ro_coop_core.specs.Seats.{AreSeated}
 use Rattle.ro_coop_core.specs.Fields.{one_end, Fields, core_in, blocked_at, CountsBytes, IsCalm, Holds}
@@ -52,7 +54,7 @@ pub record Becomes (f f' : Fields) (entry : Entry) : Type 0 where
   pub most_count : length f'.most_done ≡ 16
   pub most : (thread : ℕ) → slice_index_or f'.most_done thread 0 ≡ most_done (after f.job (core_in f) entry).replicas thread
   pub steps : f'.steps ≡ (after f.job (core_in f) entry).steps
-  pub streak : f'.streak ≡ (after f.job (core_in f) entry).streak
+  pub waits : NotesWaits f'.waits (after f.job (core_in f) entry).waited (length f'.journal)
   pub counts : CountsBytes f'.sent f'.wrote f'.steps (after f.job (core_in f) entry)
   pub due : f'.due ≡ (after f.job (core_in f) entry).due
   pub ended : f'.ended ≡ (after f.job (core_in f) entry).ended
@@ -78,7 +80,7 @@ module _ (f f' : Fields) (entry : Entry) (h : Holds f) (allowed : IsAllowed f.jo
     most_count = b.most_count;
     most_are = λ t. b.most t ∙ sym (ap (λ (c : Core). most_done c.replicas t) core-behind);
     steps_are = b.steps ∙ sym (ap (λ (c : Core). c.steps) core-behind);
-    streak_is = b.streak ∙ sym (ap (λ (c : Core). c.streak) core-behind);
+    waits_are = subst (λ (c : Core). NotesWaits f'.waits c.waited (length f'.journal)) (sym core-behind) b.waits;
     counts = subst (CountsBytes f'.sent f'.wrote f'.steps) (sym core-behind) b.counts;
     due_is = b.due ∙ sym (ap (λ (c : Core). c.due) core-behind);
     ended_is = b.ended ∙ sym (ap (λ (c : Core). c.ended) core-behind);
@@ -87,6 +89,20 @@ module _ (f f' : Fields) (entry : Entry) (h : Holds f) (allowed : IsAllowed f.jo
     views_kept = subst (λ (j : Job). KeepsViews j f'.journal f'.views) (sym b.job) (subst (λ (js : List Entry). KeepsViews f.job js f'.views) (sym b.journal) b.views_kept);
     room = b.room;
   }
+
+-- a core in which all have waited as long, behind no fewer entries
+pub kept-waits : (f f' : Fields) → Holds f → (core : Core) → core.waited ≡ (core_in f).waited → f'.waits ≡ f.waits → length f'.journal ≡ length f.journal → NotesWaits f'.waits core.waited (length f'.journal)
+kept-waits f f' h core waited waits same =
+    subst (λ (w : Waits). NotesWaits w core.waited (length f'.journal)) (sym waits)
+    (subst (λ (n : ℕ → ℕ). NotesWaits f.waits n (length f'.journal)) (sym waited) (record { are = h.waits_are.are; few = let few = h.waits_are.few in omega arith }))
+
+pub same-waits : (f f' : Fields) → Holds f → (core : Core) → core.waited ≡ (core_in f).waited → f'.waits ≡ f.waits → length f'.journal ≡ suc (length f.journal) → NotesWaits f'.waits core.waited (length f'.journal)
+same-waits f f' h core waited waits more =
+    subst (λ (w : Waits). NotesWaits w core.waited (length f'.journal)) (sym waits)
+    (subst (λ (n : ℕ → ℕ). NotesWaits f.waits n (length f'.journal)) (sym waited) (record { are = h.waits_are.are; few = let few = h.waits_are.few in omega arith }))
+
+pub length-more : {X : Type 0} (xs : List X) (x : X) → length (xs ++ x ∷ []) ≡ suc (length xs)
+length-more xs x = length-append xs (x ∷ []) ∙ (let e : length xs + 1 ≡ suc (length xs) = omega arith in e)
 
 -- no byte is written
 pub same-counts : (f f' : Fields) → Holds f → (core : Core) → core.output ≡ (core_in f).output → core.wrote ≡ 0 → f'.sent ≡ f.sent → f'.wrote ≡ 0 → f.steps ≤ f'.steps → CountsBytes f'.sent f'.wrote f'.steps core

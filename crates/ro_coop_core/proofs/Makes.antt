@@ -15,6 +15,7 @@ use Rattle.ro_coop_core.specs.Seats.{AreSeated, AreHome}
 use Rattle.ro_coop_core.specs.Fields.{one_end, Fields, core_in, blocked_at, IsCalm, Holds}
 use Rattle.ro_coop_core.specs.Runs.{IsAgreed}
 use Rattle.ro_coop_core.specs.Amid.{MakesRoom}
+use Rattle.ro_coop_core.proofs.Held.{kept-waits}
 use Rattle.ro_coop_core.proofs.Keeping.{keeps-replicas}
 use Rattle.ro_coop_core.proofs.AtHome.{all-home, seated-home, home-count}
 
@@ -27,7 +28,7 @@ pub ready-home : (f : Fields) → Holds f → f.leases ≡ [] → AreHome f.job 
 ready-home f h alone = all-home f.job (core_in f) f.seats h.seats_are (sym h.leases_are ∙ alone) (sides-many f h)
 
 module _ (f f' : Fields) (h : Holds f) (alone : f.leases ≡ []) (job : f'.job ≡ f.job) (journal : f'.journal ≡ f.journal) (home : AreHome f.job (core_in f).kernel (core_in f).replicas (core_in f).sides f'.seats) (leases : f'.leases ≡ f.leases) (kernel : f'.kernel ≡ f.kernel) (cooperates : f'.cooperates ≡ f.cooperates)
-    (blocked : f'.blocked ≡ f.blocked) (most : f'.most_done ≡ f.most_done) (steps : f'.steps ≡ f.steps) (streak : f'.streak ≡ f.streak) (due : f'.due ≡ f.due) (ended : f'.ended ≡ f.ended) (views : f'.views ≡ f.views) (sent : f'.sent ≡ f.sent) (wrote : f'.wrote ≡ f.wrote) (places : f.places ≤ f'.places) where
+    (blocked : f'.blocked ≡ f.blocked) (most : f'.most_done ≡ f.most_done) (steps : f'.steps ≡ f.steps) (waits : f'.waits ≡ f.waits) (due : f'.due ≡ f.due) (ended : f'.ended ≡ f.ended) (views : f'.views ≡ f.views) (sent : f'.sent ≡ f.sent) (wrote : f'.wrote ≡ f.wrote) (places : f.places ≤ f'.places) where
   core-same : core_in f' ≡ core_in f
   core-same = ap (λ (j : Job). replay j f'.journal) job ∙ ap (replay f.job) journal
 
@@ -44,7 +45,7 @@ module _ (f f' : Fields) (h : Holds f) (alone : f.leases ≡ []) (job : f'.job �
     most_count = ap length most ∙ h.most_count;
     most_are = λ t. ap (λ (ns : List ℕ). slice_index_or ns t 0) most ∙ h.most_are t ∙ sym (ap (λ (c : Core). most_done c.replicas t) core-same);
     steps_are = steps ∙ h.steps_are ∙ sym (ap (λ (c : Core). c.steps) core-same);
-    streak_is = streak ∙ h.streak_is ∙ sym (ap (λ (c : Core). c.streak) core-same);
+    waits_are = kept-waits f f' h (core_in f') (ap (λ (c : Core). c.waited) core-same) waits (ap length journal);
     counts = record {
       sent_are = sent ∙ h.counts.sent_are ∙ ap (λ (c : Core). length c.output) (sym core-same);
       wrote_is = wrote ∙ h.counts.wrote_is ∙ ap (λ (c : Core). c.wrote) (sym core-same);

@@ -36,7 +36,7 @@ use Rattle.ro_coop_core.specs.Seen.{MayReturn, return_of, parking_at, parked_in}
 use Rattle.ro_coop_core.specs.Runs.{seen_of}
 use Rattle.ro_coop_core.specs.Fields.{one_end, Fields, core_in, blocked_at, Holds}
 use Rattle.ro_legal.proofs.TogetherJournals.{replay_more}
-use Rattle.ro_coop_core.proofs.Held.{no-views, no-outcome, same-counts, holds-step}
+use Rattle.ro_coop_core.proofs.Held.{no-views, no-outcome, same-counts, same-waits, length-more, holds-step}
 use Rattle.ro_coop_core.proofs.Homes.{seat-changes}
 use Rattle.ro_coop_core.proofs.Apart.{leases-apart}
 use Rattle.ro_coop_core.proofs.Takes.{Rest, read-seat}
@@ -204,7 +204,7 @@ module _ (f : Fields) (h : Holds f) (lease : Lease) (partner : Partner) (count :
         most_count = ap length most ∙ (length-set f.most_done lease.thread (max (slice_index_or f.most_done lease.thread 0) done) ∙ h.most_count);
         most = λ t. ap (λ (ns : List ℕ). slice_index_or ns t 0) most ∙ (put.new-most f h lease count entry r.allowed back seat there done done_is t ∙ sym (ap (λ (c : Core). most_done c.replicas t) back.is));
         steps = steps ∙ (put.new-steps f h lease count entry r.allowed back seat there done done_is ∙ sym (ap (λ (c : Core). c.steps) back.is));
-        streak = rest.streak ∙ (h.streak_is ∙ sym (ap (λ (c : Core). c.streak) back.is));
+        waits = same-waits f f' h (after f.job (core_in f) entry) (ap (λ (c : Core). c.waited) back.is) rest.waits (ap length journal ∙ length-more f.journal entry);
         counts = same-counts f f' h _ (ap (λ (c : Core). c.output) back.is) (ap (λ (c : Core). c.wrote) back.is) rest.sent wrote (let e = steps in omega arith);
         due = rest.due ∙ (h.due_is ∙ sym (ap (λ (c : Core). c.due) back.is));
         ended = rest.ended ∙ (h.ended_is ∙ sym (ap (λ (c : Core). c.ended) back.is));

@@ -38,7 +38,7 @@ use Rattle.ro_coop_core.specs.Runs.{seen_of}
 use Rattle.ro_coop_core.specs.Fields.{spare_of, one_end, Fields, core_in, blocked_at, Holds}
 use Rattle.ro_legal.proofs.TogetherJournals.{replay_more}
 use Rattle.ro_coop_core.proofs.Keeping.{keeps-replicas, keeps-mutexes}
-use Rattle.ro_coop_core.proofs.Held.{Goes, goes, no-views, no-outcome, same-counts, holds-step}
+use Rattle.ro_coop_core.proofs.Held.{Goes, goes, no-views, no-outcome, same-counts, same-waits, length-more, holds-step}
 use Rattle.ro_coop_core.proofs.Homes.{seat-changes}
 use Rattle.ro_coop_core.proofs.Numbered.{side-numbered, numbered-set, few-mutexes}
 use Rattle.ro_coop_core.proofs.Distinct.{AreDistinct, its-rank, own-number, table-distinct, cooperative-distinct}
@@ -62,7 +62,7 @@ pub record Rest (f f' : Fields) : Type 0 where
   pub kernel : f'.kernel ≡ f.kernel
   pub cooperates : f'.cooperates ≡ f.cooperates
   pub blocked : f'.blocked ≡ f.blocked
-  pub streak : f'.streak ≡ f.streak
+  pub waits : f'.waits ≡ f.waits
   pub sent : f'.sent ≡ f.sent
   pub due : f'.due ≡ f.due
   pub ended : f'.ended ≡ f.ended
@@ -136,7 +136,7 @@ module _ (f : Fields) (h : Holds f) (lease : Lease) (allowed : MayTake f.job (co
     most_count = ap length most ∙ h.most_count;
     most = λ t. ap (λ (ns : List ℕ). slice_index_or ns t 0) most ∙ h.most_are t;
     steps = steps ∙ h.steps_are;
-    streak = r.streak ∙ h.streak_is;
+    waits = same-waits f f' h (after f.job (core_in f) (Take lease)) refl r.waits (ap length journal ∙ length-more f.journal (Take lease));
     counts = same-counts f f' h _ refl refl r.sent wrote (let e = steps in omega arith);
     due = r.due ∙ h.due_is;
     ended = r.ended ∙ h.ended_is;

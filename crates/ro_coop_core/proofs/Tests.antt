@@ -2,7 +2,6 @@
 use Rattle.std.proofs.Common.{◌≡◌, ℕ, suc, ◌+◌, ◌<◌, ◌≤◌, Bool, true, false, true≢false, not, ◌&&◌, List, [], ◌∷◌, length, Option, Some, None, refl, sym, ap, ◌∙◌, subst, arith}
 use Rattle.std.specs.Prelude.{◌==◌, nat_le, is_none, is_some, slice_get, slice_index_or, if◌then◌else◌}
 use Rattle.std.proofs.lemmas.Bool.{and_parts, and_right}
-use Rattle.std.proofs.Math.Bool.{beq}
 use Rattle.std.proofs.lemmas.Option.{slice_get_past, slice_get_read}
 use Rattle.std.specs.List.{list_all, list_any}
 use Rattle.std.specs.Option.{option_and_then, option_map, option_map_or}
@@ -14,12 +13,10 @@ use Rattle.ro_replica.specs.Views.{is_unstopped}
 use Rattle.ro_replica.specs.Seen.{replica_of}
 use Rattle.ro_peer.specs.Peers.{Peer}
 use Rattle.ro_peer.specs.Seen.{peer_of}
-use Rattle.ro_legal.specs.declared.actions.Streak.{Streak}
-use Rattle.ro_legal.specs.Streaks.{comes_last}
 use Rattle.ro_legal.specs.declared.parkings.Parking.{Parking}
 use Rattle.ro_legal.specs.Sides.{Side, peer_with}
 use Rattle.ro_legal.specs.Core.{Job, Core, is_going, nothing_lent, is_home, offers, is_awake, is_parked, is_kept, is_lendable, may_vote}
-use Rattle.ro_legal.specs.Action.{threads_made, is_turn, is_scrub_due}
+use Rattle.ro_legal.specs.Action.{threads_made, is_scrub_due}
 use Rattle.ro_legal.specs.Cooperative.{peer_in}
 use Rattle.ro_legal.proofs.Leases.{asleep-unlent, offers-home}
 use Rattle.ro_legal.proofs.TogetherLeases.{lends-whole}
@@ -74,16 +71,6 @@ module _ (f : Fields) (h : Holds f) where
   -- a replica of the core has a seat
   pub seat-within : (replica : ℕ) → replica < length (core_in f).replicas → replica < length f.seats
   seat-within replica less = let c = h.seats_are.count in omega arith
-
-  -- whose turn it is
-  pub turn-is : (last : Bool) (thread : ℕ) → beq (comes_last f.streak thread) last ≡ is_turn (core_in f) last thread
-  turn-is last thread = ap (λ (s : Streak). beq (comes_last s thread) last) h.streak_is ∙ by last (comes_last (core_in f).streak thread)
-    where
-      by : (last own : Bool) → beq own last ≡ (if last then own else not own)
-      by true true = refl
-      by true false = refl
-      by false true = refl
-      by false false = refl
 
   -- ---- the seats
 

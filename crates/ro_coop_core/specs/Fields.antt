@@ -10,7 +10,8 @@ use Rattle.ro_kernel.specs.State.{State}
 use Rattle.ro_plain.specs.Machine.{setup_of}
 use Rattle.ro_orders.specs.Choices.{has_otherwise}
 use Rattle.ro_settings.specs.Ranges.{InRange}
-use Rattle.ro_legal.specs.declared.actions.Streak.{Streak}
+use Rattle.ro_legal.specs.declared.actions.Waits.{Waits}
+use Rattle.ro_legal.specs.Waits.{NotesWaits}
 use Rattle.ro_legal.specs.Core.{Job, Core}
 use Rattle.ro_legal.specs.Cooperative.{Legal, replay, most_done}
 use Rattle.ro_coop_core.specs.declared.seats.Seat.{Seat}
@@ -37,7 +38,7 @@ pub record Fields : Type 0 where
   pub blocked : List (Option Call)
   pub most_done : List ℕ
   pub steps : ℕ
-  pub streak : Streak
+  pub waits : Waits
   pub sent : ℕ
   pub wrote : ℕ
   pub due : Option How
@@ -80,7 +81,7 @@ pub record Holds (f : Fields) : Type 0 where
   pub most_count : length f.most_done ≡ 16
   pub most_are : (thread : ℕ) → slice_index_or f.most_done thread 0 ≡ most_done (core_in f).replicas thread
   pub steps_are : f.steps ≡ (core_in f).steps
-  pub streak_is : f.streak ≡ (core_in f).streak
+  pub waits_are : NotesWaits f.waits (core_in f).waited (length f.journal)
   pub counts : CountsBytes f.sent f.wrote f.steps (core_in f)
   pub due_is : f.due ≡ (core_in f).due
   pub ended_is : f.ended ≡ (core_in f).ended

@@ -1,10 +1,10 @@
 //! What the core does next.
-ghost use Rattle.std.specs.Prelude.{◌≡◌, ◌<◌, ◌&&◌, ℕ, None, not, length, true};
+ghost use Rattle.std.specs.Prelude.{◌≡◌, ◌<◌, ◌&&◌, ℕ, IfSome, None, not, length, true};
 ghost use Rattle.std.specs.List.{list_all};
 ghost use Rattle.ro_legal.specs.Sides.{Side, is_ahead};
 ghost use Rattle.ro_legal.specs.Core.{is_going, nothing_lent, is_home, is_awake, is_lendable, is_parked, is_barred, is_kept, may_vote, may_free};
 ghost use Rattle.ro_legal.specs.Legal.{is_stuck};
-ghost use Rattle.ro_legal.specs.Action.{lowest_below, threads_made, is_turn, may_vote_in, may_lend_in, lend_turn, turn_next, first_action, next_action as next};
+ghost use Rattle.ro_legal.specs.Action.{lowest_below, threads_made, lend_next, turn_next, turn_of, is_urgent, outwaits, most_urgent_below, urgent_next, first_action, next_action as next};
 ghost use Rattle.ro_coop_core.specs.Seats.{KnowsParked, seat_stopped};
 ghost use Rattle.ro_coop_core.specs.Fields.{Holds};
 ghost use Rattle.ro_coop_core.specs.Numbers.{HasMutexes, HasRank};
@@ -18,8 +18,8 @@ use ro_legal::{Action, Parking};
 use ro_peer::Mutexes;
 
 impl Core {
-    /// What comes next: an end that is due; else, where nothing is lent, the lowest thread is freed or voted on; else the
-    /// lowest thread of the lowest replica is lent. A thread that had its votes in a row is voted on and lent last.
+    /// What comes next: an end that is due; else, where nothing is lent, the lowest thread is freed; else the thread that has
+    /// waited too long has its turn; else the lowest thread is voted on, or the lowest of the lowest replica is lent.
     pub fn next_action(&self) -> Action
         requires holds { Holds (fields_of self.now) }
         ensures next { result ≡ next (job_of self.now) (state_of self.now) }
@@ -45,20 +45,83 @@ impl Core {
         if let Some(thread) = self.lowest_to_free() {
             return Some(Action::Free(thread));
         }
-        match self.turn_next(false) {
+        match self.urgent_next() {
             Some(action) => Some(action),
-            None => self.turn_next(true),
+            None => self.turn_next(),
         }
     }
 
-    // The first vote or lease of a thread that comes behind all others, or of one of these.
-    fn turn_next(&self, last: bool) -> Option<Action>
+    // The vote or the lease of the thread that has waited longest, if one has waited too long and can go on.
+    fn urgent_next(&self) -> Option<Action>
         requires holds { Holds (fields_of self.now) }
-        ensures { result ≡ turn_next (state_of self.now) last }
+        ensures { result ≡ urgent_next (state_of self.now) }
     {
-        match self.lowest_to_vote(last) {
+        match self.most_urgent() {
+            Some(thread) => self.turn_of(thread),
+            None => None,
+        }
+    }
+
+    // That thread, and of several the lowest.
+    fn most_urgent(&self) -> Option<u32>
+        requires holds { Holds (fields_of self.now) }
+        ensures { result ≡ most_urgent_below (state_of self.now) (threads_made (state_of self.now)) }
+    {
+        let mut longest = None;
+        for thread in 0..self.kernel.made() {
+            if self.is_urgent(thread) && self.outwaits(thread, longest) {
+                longest = Some(thread);
+            }
+        }
+        longest
+    }
+
+    // Whether a thread has waited too long, and can be voted on or lent.
+    fn is_urgent(&self, thread: u32) -> bool
+        requires holds { Holds (fields_of self.now) }
+        requires thread { thread < 16 }
+        ensures { result ≡ is_urgent (state_of self.now) thread }
+    {
+        self.waits.is_overdue(thread) && self.turn_of(thread).is_some()
+    }
+
+    // Whether a thread has waited longer than another one, if there is one.
+    fn outwaits(&self, thread: u32, other: Option<u32>) -> bool
+        requires holds { Holds (fields_of self.now) }
+        requires thread { thread < 16 }
+        requires other { IfSome other (λ t. t < 16) }
+        ensures { result ≡ outwaits (state_of self.now) thread other }
+    {
+        match other {
+            Some(other) => self.waits.waited(other) < self.waits.waited(thread),
+            None => true,
+        }
+    }
+
+    // What can be done for a thread: its vote, and else its lease in the lowest replica.
+    fn turn_of(&self, thread: u32) -> Option<Action>
+        requires holds { Holds (fields_of self.now) }
+        ensures { result ≡ turn_of (state_of self.now) thread }
+    {
+        if self.may_vote(thread) {
+            return Some(Action::Vote(thread));
+        }
+        for replica in 0..self.settings.replicas {
+            if self.is_lendable(replica, thread) {
+                return Some(Action::Lend { replica, thread });
+            }
+        }
+        None
+    }
+
+    // The lowest vote, and else a lease.
+    fn turn_next(&self) -> Option<Action>
+        requires holds { Holds (fields_of self.now) }
+        ensures { result ≡ turn_next (state_of self.now) }
+    {
+        match self.lowest_to_vote() {
             Some(thread) => Some(Action::Vote(thread)),
-            None => self.lend_turn(last),
+            None => self.lowest_to_lend(),
         }
     }
 
@@ -74,49 +137,42 @@ impl Core {
         None
     }
 
-    fn lowest_to_vote(&self, last: bool) -> Option<u32>
+    fn lowest_to_vote(&self) -> Option<u32>
         requires holds { Holds (fields_of self.now) }
-        ensures { result ≡ lowest_below (threads_made (state_of self.now)) (may_vote_in (state_of self.now) last) }
+        ensures { result ≡ lowest_below (threads_made (state_of self.now)) (may_vote (state_of self.now)) }
     {
         for thread in 0..self.kernel.made() {
-            if self.is_turn(last, thread) && self.may_vote(thread) {
+            if self.may_vote(thread) {
                 return Some(thread);
             }
         }
         None
     }
 
-    fn lend_turn(&self, last: bool) -> Option<Action>
+    // The lowest lease of the lowest replica.
+    fn lowest_to_lend(&self) -> Option<Action>
         requires holds { Holds (fields_of self.now) }
-        ensures { result ≡ lend_turn (state_of self.now) last }
+        ensures { result ≡ lend_next (state_of self.now) }
     {
         for replica in 0..self.settings.replicas {
-            if let Some(thread) = self.lowest_lendable(replica, last) {
+            if let Some(thread) = self.lowest_lendable(replica) {
                 return Some(Action::Lend { replica, thread });
             }
         }
         None
     }
 
-    fn lowest_lendable(&self, replica: u32, last: bool) -> Option<u32>
+    fn lowest_lendable(&self, replica: u32) -> Option<u32>
         requires holds { Holds (fields_of self.now) }
         requires replica { replica < length (state_of self.now).replicas }
-        ensures { result ≡ lowest_below (threads_made (state_of self.now)) (may_lend_in (state_of self.now) last replica) }
+        ensures { result ≡ lowest_below (threads_made (state_of self.now)) (is_lendable (state_of self.now) replica) }
     {
         for thread in 0..self.kernel.made() {
-            if self.is_turn(last, thread) && self.is_lendable(replica, thread) {
+            if self.is_lendable(replica, thread) {
                 return Some(thread);
             }
         }
         None
-    }
-
-    // Whether it is a thread's turn: of the one that comes behind all others, or of any of these.
-    fn is_turn(&self, last: bool, thread: u32) -> bool
-        requires holds { Holds (fields_of self.now) }
-        ensures { result ≡ is_turn (state_of self.now) last thread }
-    {
-        self.streak.comes_last(thread) == last
     }
 
     /// Whether no end has come, and none must.

@@ -5,7 +5,7 @@ ghost use Rattle.ro_journal.specs.declared.Entry.TheVariants.{End};
 ghost use Rattle.ro_journal.specs.Plan.{outcome_of};
 ghost use Rattle.ro_legal.specs.Core.{is_going};
 ghost use Rattle.ro_legal.specs.declared.actions.Action.TheVariants.{End as DoEnd};
-ghost use Rattle.ro_legal.specs.Legal.{EndsAlone};
+ghost use Rattle.ro_legal.specs.Legal.{EndsAlone, EndsSink};
 ghost use Rattle.ro_legal.specs.Action.{next_action as next};
 ghost use Rattle.ro_legal.specs.Cooperative.{IsAllowed, MayEnd, replay};
 ghost use Rattle.ro_legal.specs.Choices.{IsNext};
@@ -18,7 +18,7 @@ use ro_event::{Call, View};
 use ro_image::Executable;
 use ro_journal::{Entry, How, Lease};
 use ro_kernel::Kernel;
-use ro_legal::Streak;
+use ro_legal::Waits;
 use ro_settings::Settings;
 use std::alloc::Global;
 
@@ -41,8 +41,8 @@ pub struct Core {
     pub(crate) most_done: [u64; THREADS],
     /// How many steps the first steps have so far.
     pub(crate) steps: u64,
-    /// Whose votes came last, and how many in a row.
-    pub(crate) streak: Streak,
+    /// How long threads have waited.
+    pub(crate) waits: Waits,
     /// How many bytes the events wrote.
     pub(crate) sent: u64,
     /// How many of them the last entry's event did.
@@ -71,7 +71,8 @@ impl Core {
         requires holds { Holds (fields_of self.old) }
         requires now { (next (job_of self.old) (state_of self.old) ≡ DoEnd how) ⊎ EndsAlone (job_of self.old) (state_of self.old) how }
         ensures holds { Holds (fields_of self.new) }
-        ensures allowed { IsAllowed (job_of self.old) (state_of self.old) (End how) × IsNext (job_of self.old) (state_of self.old) (End how) }
+        ensures allowed { IsAllowed (job_of self.old) (state_of self.old) (End how) }
+        ensures next { (next (job_of self.old) (state_of self.old) ≡ DoEnd how) ⊎ EndsSink (state_of self.old) how → IsNext (job_of self.old) (state_of self.old) (End how) }
         ensures appends { Appends (seen self.old) (seen self.new) (End how) }
         ensures ended { (fields_of self.new).ended ≡ Some how }
     {
@@ -122,7 +123,7 @@ impl Core {
             blocked: _,
             most_done: _,
             steps: _,
-            streak: _,
+            waits: _,
             sent: _,
             wrote: _,
             due: _,

@@ -14,7 +14,7 @@ use ro_event::{FUNCTIONS, Function, Stop, View};
 use ro_image::Executable;
 use ro_journal::Entry;
 use ro_kernel::Kernel;
-use ro_legal::Streak;
+use ro_legal::Waits;
 use ro_peer::Peer;
 use ro_region::Regions;
 use ro_replica::{Replica, ReplicaBox};
@@ -62,7 +62,7 @@ impl Core {
             blocked: [None; THREADS],
             most_done: [0; THREADS],
             steps: 0,
-            streak: Streak::new(),
+            waits: Waits::new(),
             sent: 0,
             wrote: 0,
             due: None,

@@ -265,13 +265,10 @@ impl Core {
     {
         let thread = noted.thread;
         let written = self.payload(noted.writes).len();
-        let streak = self
-            .streak
-            .after_event(thread, self.blocked[thread as usize]);
         let entering = self.entering(noted.newcomer);
         occur_in_all(self.seats.as_mut_slice(), &event.effect, thread, entering);
         self.journal.push_reserved(noted.entry);
-        self.streak = streak;
+        self.waits.note(thread, self.blocked[thread as usize]);
         self.blocked[thread as usize] = event.blocked;
         self.steps += noted.steps;
         self.sent += written as u64;

@@ -14,7 +14,7 @@ use Rattle.ro_plain.specs.Machine.{setup_of}
 use Rattle.ro_replica.specs.Replica.{Replica, opening_replica}
 use Rattle.ro_replica.specs.Seen.{ReplicaOf, IsOpening}
 use Rattle.ro_settings.specs.Ranges.{InRange}
-use Rattle.ro_legal.specs.Streaks.{no_streak}
+use Rattle.ro_legal.specs.Waits.{AreWaits, NotesWaits}
 use Rattle.ro_legal.specs.Core.{Job, Core, opening_replicas, opening_core, sharing_of}
 use Rattle.ro_legal.specs.Legal.{Legal, replay}
 use Rattle.ro_legal.proofs.Lowest.{lowest-never}
@@ -87,10 +87,10 @@ nothing-blocked (suc n) (suc thread) = nothing-blocked n thread
 
 pub opening-holds : (f : Fields) → InRange f.job.settings → f.journal ≡ [] → AreFirst f.job.program.image f.job.faults f.job.settings.watchdog f.seats → length f.seats ≡ f.job.settings.replicas
     → f.leases ≡ [] → FirstLending f → f.kernel.setup ≡ setup_of f.job.program → f.kernel.kernel ≡ opening_kernel f.job.program.image.heap
-    → f.blocked ≡ replicate 16 None → f.unblocked ≡ None → f.others_sleep ≡ false → f.steps ≡ 0 → f.scrubbed ≡ 0 → f.streak ≡ no_streak → f.due ≡ None → f.ended ≡ None → f.sent ≡ 0 → f.wrote ≡ 0
+    → f.blocked ≡ replicate 16 None → f.unblocked ≡ None → f.calm ≡ 0 → f.steps ≡ 0 → f.scrubbed ≡ 0 → AreWaits f.waits (λ thread. 0) × (f.waits.votes ≡ 0) → f.due ≡ None → f.ended ≡ None → f.sent ≡ 0 → f.wrote ≡ 0
     → length f.views ≡ f.job.settings.replicas → NoneStands f.job.settings.replicas f.groups → 1 ≤ f.places → Holds f
 unfolding opening_core
-opening-holds f in_range journal first count leases lending setup kernel blocked unblocked others steps scrubbed streak due ended sent wrote views none room =
+opening-holds f in_range journal first count leases lending setup kernel blocked unblocked calm steps scrubbed waits due ended sent wrote views none room =
     let core : replay f.job f.journal ≡ opening_core f.job = ap (replay f.job) journal in
     record {
       in_range = in_range;
@@ -103,10 +103,10 @@ opening-holds f in_range journal first count leases lending setup kernel blocked
       blocked_count = ap length blocked;
       blocked_are = λ t. ap (λ (bs : List (Option Call)). blocked_at bs t) blocked ∙ nothing-blocked 16 t ∙ sym (ap (λ (x : Core). x.blocked t) core);
       unblocked_is = unblocked ∙ sym (ap (first_unblocked f.kernel) blocked ∙ lowest-never (is_unblocked f.kernel.setup f.kernel.kernel (replicate 16 None)) (length f.kernel.kernel.lives) (λ t. ap (λ (o : Option Call). option_map_or (λ call. serves f.kernel.setup f.kernel.kernel t call) o false) (nothing-blocked 16 t)));
-      others_do = λ e. absurd (true≢false (sym e ∙ others));
+      calm_is = record { soon = omega arith; each = λ t since there lives unblocked. omega arith };
       steps_are = steps ∙ sym (ap (λ (x : Core). x.steps) core);
       scrubbed_are = scrubbed ∙ sym (ap (λ (x : Core). x.scrubbed) core);
-      streak_is = streak ∙ sym (ap (λ (x : Core). x.streak) core);
+      waits_are = subst (λ (x : Core). NotesWaits f.waits x.waited (length f.journal)) (sym core) (record { are = waits.0; few = let none = waits.1 in omega arith });
       counts = record {
         sent_are = sent ∙ ap (λ (x : Core). length x.output) (sym core);
         wrote_is = wrote ∙ ap (λ (x : Core). x.wrote) (sym core);

@@ -15,14 +15,13 @@ use Rattle.ro_replica.specs.Replica.{Replica}
 use Rattle.ro_replica.specs.Seen.{ReplicaOf, CanApply}
 use Rattle.ro_replica.specs.Lent.{IsSpareLane}
 use Rattle.ro_plain.proofs.Calls.{some-injective}
-use Rattle.ro_legal.specs.declared.actions.Streak.{Streak}
-use Rattle.ro_legal.specs.Streaks.{after_event}
+use Rattle.ro_legal.specs.Waits.{AreWaits, NotesWaits, Notes, waited_behind}
 use Rattle.ro_legal.specs.Core.{Job, Core}
 use Rattle.ro_legal.specs.Event.{Event, all_applied, core_after}
 use Rattle.ro_legal.specs.Legal.{after, IsAllowed, replay}
 use Rattle.ro_core.specs.Seen.{IsOfJob}
 use Rattle.ro_core.specs.Grouped.{AreGrouped}
-use Rattle.ro_core.specs.Fields.{AreNoted, AreWishes, IsWish, lent_at, AreSeated, AreHome, AreSpared, CanTake, one_end, Fields, core_in, blocked_at, first_unblocked, OthersSleep, CountsBytes, Holds}
+use Rattle.ro_core.specs.Fields.{AreNoted, AreWishes, IsWish, lent_at, AreSeated, AreHome, AreSpared, CanTake, one_end, Fields, core_in, blocked_at, first_unblocked, IsCalm, CountsBytes, Holds}
 use Rattle.ro_core.specs.Wishing.{few_misses, wish_place, Forgives}
 use Rattle.ro_core.specs.declared.wishing.Wish.{Wish}
 use Rattle.ro_legal.proofs.Lists.{get-within}
@@ -30,7 +29,7 @@ use Rattle.ro_legal.proofs.Ordered.{ordered}
 use Rattle.ro_legal.proofs.Happens.{Happens}
 use Rattle.ro_legal.proofs.Journals.{outcome_of-append, replay_more}
 use Rattle.ro_core.proofs.Tests.{seated-home}
-use Rattle.ro_core.proofs.Held.{Goes, no-views, no-outcome, holds-step}
+use Rattle.ro_core.proofs.Held.{Goes, no-views, no-outcome, length-more, holds-step}
 
 different : (m n : ℕ) → m ≢ n → (m == n) ≡ false
 different m n d = by (m == n) refl
@@ -127,9 +126,9 @@ module _ (f f' : Fields) (h : Holds f) (entry : Entry) (allowed : IsAllowed f.jo
 
   -- the fields behind the event
   pub happened-holds : f'.job ≡ f.job → AreHome f.job event.kernel f'.seats (all_applied event.effect replicas) → AreGrouped (all_applied event.effect replicas) f'.groups → f'.leases ≡ f.leases → Forgiven f f' thread → f'.kernel.setup ≡ f.kernel.setup → f'.kernel.kernel ≡ event.kernel
-      → f'.blocked ≡ slice_set f.blocked thread event.blocked → f'.unblocked ≡ first_unblocked f'.kernel f'.blocked → (f'.others_sleep ≡ true → OthersSleep f'.kernel.kernel f'.blocked f'.groups f'.streak []) → f'.steps ≡ f.steps + count + event_steps event.did → f'.scrubbed ≡ f.scrubbed → f'.streak ≡ after_event f.streak thread (blocked_at f.blocked thread) → f'.due ≡ event.due → f'.ended ≡ f.ended → length f'.views ≡ length f'.seats
+      → f'.blocked ≡ slice_set f.blocked thread event.blocked → f'.unblocked ≡ first_unblocked f'.kernel f'.blocked → IsCalm f'.kernel.kernel f'.blocked f'.waits f'.calm → f'.steps ≡ f.steps + count + event_steps event.did → f'.scrubbed ≡ f.scrubbed → Notes f.waits f'.waits thread (blocked_at f.blocked thread) → f'.due ≡ event.due → f'.ended ≡ f.ended → length f'.views ≡ length f'.seats
       → length event.payload ≤ 4096 * event_steps event.did → f'.sent ≡ f.sent + length event.payload → f'.wrote ≡ length event.payload → outcome_of (entry ∷ []) ≡ None → 1 ≤ f'.places → Holds f'
-  happened-holds job home groups leases lending setup kernel blocked unblocked others steps scrubbed streak due ended views written sent wrote no_end room = holds-step f f' entry h allowed (record {
+  happened-holds job home groups leases lending setup kernel blocked unblocked calm steps scrubbed waits due ended views written sent wrote no_end room = holds-step f f' entry h allowed (record {
     job = job;
     journal = journal;
     leases = leases ∙ h.leases_are ∙ sym (ap (λ (c : Core). c.leases) came);
@@ -141,10 +140,13 @@ module _ (f f' : Fields) (h : Holds f) (entry : Entry) (allowed : IsAllowed f.jo
     blocked = λ t. ap (λ (bs : List (Option Call)). blocked_at bs t) blocked ∙ blocked-set f.blocked thread t event.blocked (let n = h.blocked_count in omega arith)
         ∙ ap (λ (o : Option Call). if t == thread then event.blocked else o) (h.blocked_are t) ∙ sym (ap (λ (c : Core). c.blocked t) came);
     unblocked = unblocked;
-    others = λ e. subst (OthersSleep f'.kernel.kernel f'.blocked f'.groups f'.streak) (sym (leases ∙ alone)) (others e);
+    calm = calm;
     steps = steps ∙ ap (λ (n : ℕ). n + count + event_steps event.did) h.steps_are ∙ sym (ap (λ (c : Core). c.steps) came);
     scrubbed = scrubbed ∙ h.scrubbed_are ∙ sym (ap (λ (c : Core). c.scrubbed) came);
-    streak = streak ∙ ap (λ (s : Streak). after_event s thread (blocked_at f.blocked thread)) h.streak_is ∙ ap (after_event (core_in f).streak thread) (h.blocked_are thread) ∙ sym (ap (λ (c : Core). c.streak) came);
+    waits = subst (λ (c : Core). NotesWaits f'.waits c.waited (length f'.journal)) (sym came) (record {
+      are = subst (λ (o : Option Call). AreWaits f'.waits (waited_behind (core_in f).waited thread o)) (h.blocked_are thread) (waits.waits (core_in f).waited h.waits_are.are);
+      few = let few = h.waits_are.few in let most = waits.most in let more = ap length journal ∙ length-more f.journal entry in omega arith;
+    });
     counts = subst (CountsBytes f'.sent f'.wrote f'.steps) (sym came) (counts written sent wrote steps);
     due = due ∙ sym (ap (λ (c : Core). c.due) came);
     ended = ended ∙ h.ended_is ∙ sym (ap (λ (c : Core). c.ended) came);

@@ -26,11 +26,11 @@ module _ (f : Fields) (h : Holds f) (how : How) (going : is_going (core_in f) �
     unfolding after
     conclude-output = ap (λ (c : Core). c.output) (replay_more f.job f.journal (End how)) ∙ cut-none (core_in f) how not_sink
 
-    pub conclude-holds : (f' : Fields) → f'.job ≡ f.job → f'.kernel ≡ f.kernel → f'.blocked ≡ f.blocked → f'.unblocked ≡ f.unblocked → f'.others_sleep ≡ f.others_sleep → f'.steps ≡ f.steps → f'.scrubbed ≡ f.scrubbed → f'.streak ≡ f.streak → f'.seats ≡ f.seats → f'.groups ≡ f.groups → f'.leases ≡ f.leases → SameLending f f' → f'.due ≡ f.due → f'.ended ≡ Some how → f'.sent ≡ f.sent → f'.wrote ≡ 0
+    pub conclude-holds : (f' : Fields) → f'.job ≡ f.job → f'.kernel ≡ f.kernel → f'.blocked ≡ f.blocked → f'.unblocked ≡ f.unblocked → f'.calm ≡ f.calm → f'.steps ≡ f.steps → f'.scrubbed ≡ f.scrubbed → f'.waits ≡ f.waits → f'.seats ≡ f.seats → f'.groups ≡ f.groups → f'.leases ≡ f.leases → SameLending f f' → f'.due ≡ f.due → f'.ended ≡ Some how → f'.sent ≡ f.sent → f'.wrote ≡ 0
         → f'.journal ≡ f.journal ++ End how ∷ [] → f.places ≡ f'.places + 1 → KeepsViews f.job (f.journal ++ End how ∷ []) f'.views → Holds f'
     unfolding after
-    conclude-holds f' job kernel blocked unblocked others steps scrubbed streak seats groups leases lending due ended sent wrote journal less kept =
-        ended-holds f f' h how concluding.not_ended allowed (same-counts f f' h (after f.job (core_in f) (End how)) (cut-none (core_in f) how not_sink) refl sent wrote steps) kept job kernel blocked unblocked others steps scrubbed streak seats groups leases lending (due ∙ concluding.not_due) ended journal less
+    conclude-holds f' job kernel blocked unblocked calm steps scrubbed waits seats groups leases lending due ended sent wrote journal less kept =
+        ended-holds f f' h how concluding.not_ended allowed (same-counts f f' h (after f.job (core_in f) (End how)) (cut-none (core_in f) how not_sink) refl sent wrote steps) kept job kernel blocked unblocked calm steps scrubbed waits seats groups leases lending (due ∙ concluding.not_due) ended journal less
 
 -- an end writes nothing
 pub ended-wrote : (old new : Run) (how : How) → Appends (silent old) (silent new) (End how) → output_of (job_of new) new.journal.items ≡ output_of (job_of old) old.journal.items → LastWrote (fields_of new) (output_of (job_of old) old.journal.items) []

@@ -11,16 +11,16 @@ use Rattle.ro_kernel.specs.State.{State}
 use Rattle.ro_replica.specs.Seen.{ReplicaOf}
 use Rattle.ro_legal.specs.Core.{Job, Core}
 use Rattle.ro_legal.specs.declared.actions.Action.TheVariants.{End as DoEnd}
-use Rattle.ro_legal.specs.Legal.{after, MayEnd, alone, EndsAlone, cut_output}
+use Rattle.ro_legal.specs.Legal.{after, MayEnd, alone, EndsAlone, EndsSink, cut_output}
 use Rattle.ro_legal.specs.Action.{next_action, IsNext}
-use Rattle.ro_core.specs.Seen.{EndsNow, KeepsViews}
+use Rattle.ro_core.specs.Seen.{KeepsViews}
 use Rattle.ro_legal.specs.Sound.{IsOver}
 use Rattle.ro_core.specs.Fields.{Seated, AreSeated, one_end, Fields, core_in, blocked_at, CountsBytes, Holds}
 use Rattle.ro_legal.proofs.Journals.{outcome_of-append}
 use Rattle.ro_core.specs.Grouped.{AreGrouped}
 use Rattle.ro_legal.proofs.Ordered.{ordered, going-parts}
 use Rattle.ro_legal.proofs.Nexts.{end_next, end_is}
-use Rattle.ro_core.proofs.Held.{not-split, no-outcome, same-unblocked, same-asleep, SameLending, same-noted, same-lanes, holds-step}
+use Rattle.ro_core.proofs.Held.{not-split, no-outcome, same-unblocked, same-calm, same-waits, length-more, SameLending, same-noted, same-lanes, holds-step}
 
 end-seated : (job : Job) (core : Core) (seats : List (Option ReplicaOf)) (how : How) → AreSeated job core seats → AreSeated job (after job core (End how)) seats
 unfolding after
@@ -33,10 +33,10 @@ end-seated job core seats how h = record { count = h.count; each = λ number. by
 
 -- the fields behind an end
 pub ended-holds : (f f' : Fields) → Holds f → (how : How) → f.ended ≡ None → MayEnd f.job (core_in f) how → CountsBytes f'.sent f'.wrote f'.steps (after f.job (core_in f) (End how)) → KeepsViews f.job (f.journal ++ End how ∷ []) f'.views
-    → f'.job ≡ f.job → f'.kernel ≡ f.kernel → f'.blocked ≡ f.blocked → f'.unblocked ≡ f.unblocked → f'.others_sleep ≡ f.others_sleep → f'.steps ≡ f.steps → f'.scrubbed ≡ f.scrubbed → f'.streak ≡ f.streak → f'.seats ≡ f.seats → f'.groups ≡ f.groups → f'.leases ≡ f.leases → SameLending f f' → f'.due ≡ None → f'.ended ≡ Some how
+    → f'.job ≡ f.job → f'.kernel ≡ f.kernel → f'.blocked ≡ f.blocked → f'.unblocked ≡ f.unblocked → f'.calm ≡ f.calm → f'.steps ≡ f.steps → f'.scrubbed ≡ f.scrubbed → f'.waits ≡ f.waits → f'.seats ≡ f.seats → f'.groups ≡ f.groups → f'.leases ≡ f.leases → SameLending f f' → f'.due ≡ None → f'.ended ≡ Some how
     → f'.journal ≡ f.journal ++ End how ∷ [] → f.places ≡ f'.places + 1 → Holds f'
 unfolding after
-ended-holds f f' h how none allowed counts kept job kernel blocked unblocked others steps scrubbed streak seats groups leases lending due ended journal less = holds-step f f' (End how) h (sym h.ended_is ∙ none, allowed) (record {
+ended-holds f f' h how none allowed counts kept job kernel blocked unblocked calm steps scrubbed waits seats groups leases lending due ended journal less = holds-step f f' (End how) h (sym h.ended_is ∙ none, allowed) (record {
   job = job;
   journal = journal;
   leases = leases ∙ h.leases_are;
@@ -47,10 +47,10 @@ ended-holds f f' h how none allowed counts kept job kernel blocked unblocked oth
   blocked_count = ap length blocked ∙ h.blocked_count;
   blocked = λ t. ap (λ (bs : List (Option Call)). blocked_at bs t) blocked ∙ h.blocked_are t;
   unblocked = same-unblocked f f' h kernel blocked unblocked;
-  others = same-asleep f f' h kernel blocked groups streak leases others;
+  calm = same-calm f f' h kernel blocked waits calm;
   steps = steps ∙ h.steps_are;
   scrubbed = scrubbed ∙ h.scrubbed_are;
-  streak = streak ∙ h.streak_is;
+  waits = same-waits f f' h (after f.job (core_in f) (End how)) refl waits (ap length journal ∙ length-more f.journal (End how));
   counts = counts;
   due = due;
   ended = ended;
@@ -95,13 +95,13 @@ module _ (f : Fields) (h : Holds f) (how : How) (now : Comes f.job (core_in f) h
   ended-none : f.ended ≡ None
   ended-none = h.ended_is ∙ end-not-over
 
-  -- it is allowed, and next
-  pub end-allowed : MayEnd f.job (core_in f) how × IsNext f.job (core_in f) (End how)
+  -- it is allowed
+  pub end-allowed : MayEnd f.job (core_in f) how
   end-allowed = by now
     where
-      by : Comes f.job (core_in f) how → MayEnd f.job (core_in f) how × IsNext f.job (core_in f) (End how)
-      by (inl next) = ((end_next f.job (core_in f) how next).1, inl next)
-      by (inr e) = (alone e, inr (inl e))
+      by : Comes f.job (core_in f) how → MayEnd f.job (core_in f) how
+      by (inl next) = (end_next f.job (core_in f) how next).1
+      by (inr e) = alone e
 
   -- an end that comes next is an exit, a trap or a deadlock; one that comes alone a deadlock or a failing sink's
   next-over : next_action f.job (core_in f) ≡ DoEnd how → IsOver how ⊎ (how ≡ Deadlock)
@@ -184,15 +184,11 @@ module _ (f : Fields) (h : Holds f) (how : How) (now : Comes f.job (core_in f) h
       by (Sink taken) e = end-counts-sink taken sent e (cut taken e)
       by so e = kept (λ taken g. let k : so ≡ Sink taken = sym e ∙ g in cc)
 
-  pub end-holds : (f' : Fields) → CountsBytes f'.sent f'.wrote f'.steps (after f.job (core_in f) (End how)) → f'.job ≡ f.job → f'.kernel ≡ f.kernel → f'.blocked ≡ f.blocked → f'.unblocked ≡ f.unblocked → f'.others_sleep ≡ f.others_sleep → f'.steps ≡ f.steps → f'.scrubbed ≡ f.scrubbed → f'.streak ≡ f.streak → f'.seats ≡ f.seats → f'.groups ≡ f.groups → f'.leases ≡ f.leases → SameLending f f' → f'.due ≡ None → f'.ended ≡ Some how
+  pub end-holds : (f' : Fields) → CountsBytes f'.sent f'.wrote f'.steps (after f.job (core_in f) (End how)) → f'.job ≡ f.job → f'.kernel ≡ f.kernel → f'.blocked ≡ f.blocked → f'.unblocked ≡ f.unblocked → f'.calm ≡ f.calm → f'.steps ≡ f.steps → f'.scrubbed ≡ f.scrubbed → f'.waits ≡ f.waits → f'.seats ≡ f.seats → f'.groups ≡ f.groups → f'.leases ≡ f.leases → SameLending f f' → f'.due ≡ None → f'.ended ≡ Some how
       → f'.journal ≡ f.journal ++ End how ∷ [] → f.places ≡ f'.places + 1 → Holds f'
-  end-holds f' counts = ended-holds f f' h how ended-none end-allowed.0 counts (not-split f.job _ f'.views how (outcome_of-append f.journal (End how ∷ []) (no-outcome f h ended-none)) not-by-views.0 not-by-views.1)
+  end-holds f' counts = ended-holds f f' h how ended-none end-allowed counts (not-split f.job _ f'.views how (outcome_of-append f.journal (End how ∷ []) (no-outcome f h ended-none)) not-by-views.0 not-by-views.1)
 
--- an end that is due, or a deadlock, is none of a failing sink
-pub plain-end : (f : Fields) → Holds f → (how : How) → EndsNow f.job (core_in f) how → (bytes : ℕ) → how ≡ Sink bytes → ⊥
-plain-end f h how (inr stuck) bytes is = let e : Deadlock ≡ Sink bytes = sym stuck.0 ∙ is in cc
-plain-end f h how (inl next) bytes is = by (next-over f h how (inl next) next)
-  where
-    by : IsOver how ⊎ (how ≡ Deadlock) → ⊥
-    by (inl o) = elim (subst IsOver is o) [ ]
-    by (inr e) = let g : Deadlock ≡ Sink bytes = sym e ∙ is in cc
+-- one that is next, or that of a failing sink, comes next
+pub comes-next : (job : Job) (core : Core) (how : How) → (next_action job core ≡ DoEnd how) ⊎ EndsSink core how → IsNext job core (End how)
+comes-next job core how (inl next) = inl next
+comes-next job core how (inr sink) = inr (inl sink)

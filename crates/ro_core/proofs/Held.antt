@@ -1,6 +1,6 @@
 -- The fields of a run behind one entry more.
-use Rattle.std.proofs.Common.{◌≡◌, ◌⊎◌, inl, inr, ℕ, ◌+◌, ◌*◌, ◌≤◌, true, List, [], ◌∷◌, ◌++◌, length, Option, Some, None, sym, ap, ◌∙◌, subst, arith}
-use Rattle.std.specs.Prelude.{IsSome, slice_get}
+use Rattle.std.proofs.Common.{◌≡◌, ◌⊎◌, inl, inr, ℕ, suc, ◌+◌, ◌*◌, ◌≤◌, true, List, [], ◌∷◌, ◌++◌, length, length-append, Option, Some, None, sym, ap, ◌∙◌, subst, arith}
+use Rattle.std.specs.Prelude.{IsSome, slice_get, slice_set}
 use Rattle.std.specs.List.{All}
 use Rattle.ro_replica.specs.Lent.{IsSpareLane}
 use Rattle.ro_legal.specs.Parts.{Sharing}
@@ -13,7 +13,8 @@ use Rattle.ro_journal.specs.declared.Entry.TheVariants.{End}
 use Rattle.ro_journal.specs.Plan.{outcome_of}
 use Rattle.ro_event.specs.Views.{View}
 use Rattle.ro_settings.specs.Ranges.{InRange}
-use Rattle.ro_kernel.specs.Kernel.{Kernel}
+use Rattle.ro_kernel.specs.declared.Life.{Life}
+use Rattle.ro_kernel.specs.Kernel.{Kernel, live_option, lives_on}
 use Rattle.ro_kernel.specs.Mapped.{IsMapped}
 use Rattle.ro_kernel.specs.State.{State}
 use Rattle.ro_plain.specs.Machine.{setup_of}
@@ -22,8 +23,10 @@ use Rattle.ro_legal.specs.Legal.{after, IsAllowed, Legal, replay}
 use Rattle.ro_core.specs.Seen.{CoreOf, KeepsViews}
 use Rattle.ro_event.specs.declared.calls.Call.{Call}
 use Rattle.ro_group.specs.Groups.{Groups}
-use Rattle.ro_legal.specs.declared.actions.Streak.{Streak}
-use Rattle.ro_core.specs.Fields.{AreNoted, AreSeated, lent_at, one_end, Fields, core_in, blocked_at, first_unblocked, OthersSleep, DoOthersSleep, CountsBytes, Holds}
+use Rattle.ro_core.specs.Fields.{AreNoted, AreSeated, lent_at, one_end, Fields, core_in, blocked_at, first_unblocked, IsCalm, CountsBytes, Holds}
+use Rattle.ro_plain.proofs.Places.{get-set-cases}
+use Rattle.ro_legal.specs.declared.actions.Waits.{Waits}
+use Rattle.ro_legal.specs.Waits.{NotesWaits, Notes}
 use Rattle.ro_core.specs.Grouped.{AreGrouped}
 use Rattle.ro_legal.proofs.Mapped.{stays-mapped}
 use Rattle.ro_legal.proofs.Journals.{outcome_of-append, replay_more, legal_more}
@@ -104,10 +107,10 @@ pub record Becomes (f f' : Fields) (entry : Entry) : Type 0 where
   pub blocked_count : length f'.blocked ≡ 16
   pub blocked : (thread : ℕ) → blocked_at f'.blocked thread ≡ (after f.job (core_in f) entry).blocked thread
   pub unblocked : f'.unblocked ≡ first_unblocked f'.kernel f'.blocked
-  pub others : f'.others_sleep ≡ true → DoOthersSleep f'
+  pub calm : IsCalm f'.kernel.kernel f'.blocked f'.waits f'.calm
   pub steps : f'.steps ≡ (after f.job (core_in f) entry).steps
   pub scrubbed : f'.scrubbed ≡ (after f.job (core_in f) entry).scrubbed
-  pub streak : f'.streak ≡ (after f.job (core_in f) entry).streak
+  pub waits : NotesWaits f'.waits (after f.job (core_in f) entry).waited (length f'.journal)
   pub counts : CountsBytes f'.sent f'.wrote f'.steps (after f.job (core_in f) entry)
   pub due : f'.due ≡ (after f.job (core_in f) entry).due
   pub ended : f'.ended ≡ (after f.job (core_in f) entry).ended
@@ -133,10 +136,10 @@ module _ (f f' : Fields) (entry : Entry) (h : Holds f) (allowed : IsAllowed f.jo
     blocked_count = b.blocked_count;
     blocked_are = λ t. b.blocked t ∙ sym (ap (λ (c : Core). c.blocked t) core_is);
     unblocked_is = b.unblocked;
-    others_do = b.others;
+    calm_is = b.calm;
     steps_are = b.steps ∙ sym (ap (λ (c : Core). c.steps) core_is);
     scrubbed_are = b.scrubbed ∙ sym (ap (λ (c : Core). c.scrubbed) core_is);
-    streak_is = b.streak ∙ sym (ap (λ (c : Core). c.streak) core_is);
+    waits_are = subst (λ (c : Core). NotesWaits f'.waits c.waited (length f'.journal)) (sym core_is) b.waits;
     counts = subst (CountsBytes f'.sent f'.wrote f'.steps) (sym core_is) b.counts;
     due_is = b.due ∙ sym (ap (λ (c : Core). c.due) core_is);
     ended_is = b.ended ∙ sym (ap (λ (c : Core). c.ended) core_is);
@@ -152,13 +155,39 @@ pub same-unblocked : (f f' : Fields) → Holds f → f'.kernel ≡ f.kernel → 
 same-unblocked f f' h kernel blocked unblocked =
     unblocked ∙ h.unblocked_is ∙ ap (first_unblocked f.kernel) (sym blocked) ∙ ap (λ (k : State). first_unblocked k f'.blocked) (sym kernel)
 
-pub same-asleep : (f f' : Fields) → Holds f → f'.kernel ≡ f.kernel → f'.blocked ≡ f.blocked → f'.groups ≡ f.groups → f'.streak ≡ f.streak → f'.leases ≡ f.leases → f'.others_sleep ≡ f.others_sleep → f'.others_sleep ≡ true → DoOthersSleep f'
-same-asleep f f' h kernel blocked groups streak leases others e =
-    subst (λ (k : State). OthersSleep k.kernel f'.blocked f'.groups f'.streak f'.leases) (sym kernel)
-    (subst (λ (bs : List (Option Call)). OthersSleep f.kernel.kernel bs f'.groups f'.streak f'.leases) (sym blocked)
-    (subst (λ (gs : Groups). OthersSleep f.kernel.kernel f.blocked gs f'.streak f'.leases) (sym groups)
-    (subst (λ (s : Streak). OthersSleep f.kernel.kernel f.blocked f.groups s f'.leases) (sym streak)
-    (subst (OthersSleep f.kernel.kernel f.blocked f.groups f.streak) (sym leases) (h.others_do (sym others ∙ e))))))
+pub same-calm : (f f' : Fields) → Holds f → f'.kernel ≡ f.kernel → f'.blocked ≡ f.blocked → f'.waits ≡ f.waits → f'.calm ≡ f.calm → IsCalm f'.kernel.kernel f'.blocked f'.waits f'.calm
+same-calm f f' h kernel blocked waits calm =
+    subst (λ (k : State). IsCalm k.kernel f'.blocked f'.waits f'.calm) (sym kernel)
+    (subst (λ (bs : List (Option Call)). IsCalm f.kernel.kernel bs f'.waits f'.calm) (sym blocked)
+    (subst (λ (w : Waits). IsCalm f.kernel.kernel f.blocked w f'.calm) (sym waits)
+    (subst (IsCalm f.kernel.kernel f.blocked f.waits) (sym calm) h.calm_is)))
+
+-- nor did it change who lives and who is blocked
+pub still-calm : (before after : Kernel) (blocked : List (Option Call)) (old new : Waits) (calm own : ℕ) (was : Option Call) → after.lives ≡ before.lives → Notes old new own was → IsCalm before blocked old calm → IsCalm after blocked new calm
+still-calm before after blocked old new calm own was same notes h = record {
+  soon = let soon = h.soon in let least = notes.least in omega arith;
+  each = λ t since there lives unblocked. by t since (ap (λ (xs : List ℕ). slice_get xs t) (sym notes.since) ∙ there) (sym (ap (λ (ls : List Life). live_option (slice_get ls t)) same) ∙ lives) unblocked;
+}
+  where
+    by : (t since : ℕ) → slice_get (slice_set old.since own new.votes) t ≡ Some since → lives_on before t ≡ true → blocked_at blocked t ≡ None → calm ≤ since + 64
+    by t since there lives unblocked = elim (get-set-cases old.since own t new.votes since there) [
+      | inl other ↦ h.each t since other.1 lives unblocked
+      | inr is ↦ let soon = h.soon in let least = notes.least in let now = is.1 in omega arith
+    ]
+
+-- a core in which all have waited as long, behind no fewer entries
+pub kept-waits : (f f' : Fields) → Holds f → (core : Core) → core.waited ≡ (core_in f).waited → f'.waits ≡ f.waits → length f'.journal ≡ length f.journal → NotesWaits f'.waits core.waited (length f'.journal)
+kept-waits f f' h core waited waits same =
+    subst (λ (w : Waits). NotesWaits w core.waited (length f'.journal)) (sym waits)
+    (subst (λ (n : ℕ → ℕ). NotesWaits f.waits n (length f'.journal)) (sym waited) (record { are = h.waits_are.are; few = let few = h.waits_are.few in omega arith }))
+
+pub same-waits : (f f' : Fields) → Holds f → (core : Core) → core.waited ≡ (core_in f).waited → f'.waits ≡ f.waits → length f'.journal ≡ suc (length f.journal) → NotesWaits f'.waits core.waited (length f'.journal)
+same-waits f f' h core waited waits more =
+    subst (λ (w : Waits). NotesWaits w core.waited (length f'.journal)) (sym waits)
+    (subst (λ (n : ℕ → ℕ). NotesWaits f.waits n (length f'.journal)) (sym waited) (record { are = h.waits_are.are; few = let few = h.waits_are.few in omega arith }))
+
+pub length-more : {X : Type 0} (xs : List X) (x : X) → length (xs ++ x ∷ []) ≡ suc (length xs)
+length-more xs x = length-append xs (x ∷ []) ∙ (let e : length xs + 1 ≡ suc (length xs) = omega arith in e)
 
 -- no byte is written
 pub same-counts : (f f' : Fields) → Holds f → (core : Core) → core.output ≡ (core_in f).output → core.wrote ≡ 0 → f'.sent ≡ f.sent → f'.wrote ≡ 0 → f'.steps ≡ f.steps → CountsBytes f'.sent f'.wrote f'.steps core

@@ -1,24 +1,26 @@
 -- An event that is done in every replica and noted, in the fields of a run.
-use Rattle.std.proofs.Common.{◌≡◌, ℕ, ◌+◌, ◌*◌, ◌<◌, ◌≤◌, List, [], ◌∷◌, ◌++◌, length, true, None, sym, ap, ◌∙◌, subst, arith}
+use Rattle.std.proofs.Common.{◌≡◌, ℕ, ◌+◌, ◌*◌, ◌<◌, ◌≤◌, List, [], ◌∷◌, ◌++◌, length, true, Option, None, sym, ap, ◌∙◌, subst, arith}
 use Rattle.std.specs.Prelude.{◌^◌, false, is_none, slice_set, IfSome}
 use Rattle.std.proofs.lemmas.Bool.{and_from}
 use Rattle.ro_journal.specs.Plan.{event_steps}
+use Rattle.ro_event.specs.declared.calls.Call.{Call}
 use Rattle.ro_kernel.specs.Kernel.{Kernel, lives_on}
 use Rattle.ro_kernel.specs.State.{State}
 use Rattle.ro_region.specs.Permission.{with_range}
 use Rattle.ro_settings.proofs.Counts.{few-replicas}
 use Rattle.ro_core.specs.declared.cores.Core.{Core as Run}
-use Rattle.ro_legal.specs.Streaks.{after_event}
+use Rattle.ro_legal.specs.declared.actions.Waits.{Waits}
+use Rattle.ro_legal.specs.Waits.{Notes}
 use Rattle.ro_legal.specs.Core.{Job, Core, is_going}
 use Rattle.ro_legal.specs.Event.{Event, all_applied, core_after}
 use Rattle.ro_legal.specs.Legal.{replay, output_of}
 use Rattle.ro_legal.specs.Sound.{IsOrdered}
-use Rattle.ro_core.specs.Fields.{Fields, core_in, blocked_at, first_unblocked, OthersSleep, AreHome, CanTake, Holds}
+use Rattle.ro_core.specs.Fields.{Fields, core_in, blocked_at, first_unblocked, IsCalm, AreHome, CanTake, Holds}
 use Rattle.ro_core.specs.Grouped.{AreGrouped}
 use Rattle.ro_serving.specs.Happening.{event_by}
 use Rattle.ro_core.specs.Runs.{job_of, payload_by, LastWrote, Occurrence, CanOccur}
 use Rattle.ro_legal.proofs.Journals.{replay_more, legal_more}
-use Rattle.ro_core.proofs.Held.{Goes, goes}
+use Rattle.ro_core.proofs.Held.{Goes, goes, still-calm}
 use Rattle.ro_legal.proofs.Happens.{Happens}
 use Rattle.ro_legal.proofs.Ordered.{ordered}
 use Rattle.ro_core.proofs.Sitting.{home-count}
@@ -119,17 +121,32 @@ module _ (r : Run) (o : Occurrence) (can : CanOccur r o) where
       can.amid.unblocked ∙ h.unblocked_is ∙ sym (first-same f.kernel r.kernel f.blocked can.amid.setup (can.leaves stays.0))
       ∙ ap (first_unblocked r.kernel) (sym can.amid.blocked ∙ sym (still-unblocked r.blocked o.thread o.event.blocked stays.2 stays.1))
 
+  -- ---- how long threads wait
+
+  -- so many votes were held at most
+  pub occurs-votes : r.waits.votes ≤ length r.journal.items
+  occurs-votes = let few = h.waits_are.few in let same = ap (λ (w : Waits). w.votes) can.amid.waits in let long = ap length can.amid.journal in omega arith
+
+  -- until when none was overdue none is
+  pub occurs-calm : (after : Waits) → Notes r.waits after o.thread (blocked_at r.blocked o.thread) → (o.event.moves ≡ false) × (o.event.blocked ≡ None) × (blocked_at r.blocked o.thread ≡ None) → IsCalm r.kernel.kernel (slice_set r.blocked o.thread o.event.blocked) after r.calm
+  occurs-calm after notes stays =
+      subst (λ (bs : List (Option Call)). IsCalm r.kernel.kernel bs after r.calm) (sym (still-unblocked r.blocked o.thread o.event.blocked stays.2 stays.1))
+      (subst (λ (bs : List (Option Call)). IsCalm r.kernel.kernel bs after r.calm) (sym can.amid.blocked)
+      (subst (IsCalm r.kernel.kernel f.blocked after) (sym can.amid.calm)
+      (still-calm f.kernel.kernel r.kernel.kernel f.blocked f.waits after f.calm o.thread (blocked_at r.blocked o.thread) (can.leaves stays.0).lives
+      (subst (λ (w : Waits). Notes w after o.thread (blocked_at r.blocked o.thread)) can.amid.waits notes) h.calm_is)))
+
   -- ---- the fields behind it
 
   module _ (f' : Fields) (job : f'.job ≡ f.job) (journal : f'.journal ≡ f.journal ++ o.entry ∷ []) (due : f'.due ≡ o.event.due) where
     pub occurs-holds : AreHome f.job r.kernel.kernel f'.seats (all_applied o.event.effect can.replicas) → AreGrouped (all_applied o.event.effect can.replicas) f'.groups → f'.leases ≡ f.leases → Forgiven f f' o.thread → f'.kernel ≡ r.kernel → f'.blocked ≡ slice_set r.blocked o.thread o.event.blocked → f'.unblocked ≡ first_unblocked f'.kernel f'.blocked
-        → (f'.others_sleep ≡ true → OthersSleep f'.kernel.kernel f'.blocked f'.groups f'.streak []) → f'.steps ≡ r.steps + o.steps → f'.scrubbed ≡ r.scrubbed → f'.streak ≡ after_event r.streak o.thread (blocked_at r.blocked o.thread) → f'.ended ≡ f.ended → f'.views ≡ f.views → f'.sent ≡ r.sent + length payload → f'.wrote ≡ length payload → 1 ≤ f'.places → Holds f'
-    occurs-holds home groups leases lending kernel blocked unblocked others counted scrubbed streak ended views sent wrote room =
+        → IsCalm f'.kernel.kernel f'.blocked f'.waits f'.calm → f'.steps ≡ r.steps + o.steps → f'.scrubbed ≡ r.scrubbed → Notes r.waits f'.waits o.thread (blocked_at r.blocked o.thread) → f'.ended ≡ f.ended → f'.views ≡ f.views → f'.sent ≡ r.sent + length payload → f'.wrote ≡ length payload → 1 ≤ f'.places → Holds f'
+    occurs-holds home groups leases lending kernel blocked unblocked calm counted scrubbed waits ended views sent wrote room =
         happened-holds f f' h o.entry can.allowed o.thread can.count can.replicas event can.came goes-on can.alone happens occurs-few occurs-many journal
         job home groups leases lending (ap (λ (k : State). k.setup) kernel ∙ can.amid.setup) (ap (λ (k : State). k.kernel) kernel)
-        (blocked ∙ ap (λ bs. slice_set bs o.thread o.event.blocked) can.amid.blocked) unblocked others
+        (blocked ∙ ap (λ bs. slice_set bs o.thread o.event.blocked) can.amid.blocked) unblocked calm
         (let a = can.counted in let b = can.amid.steps in omega arith) (scrubbed ∙ can.amid.scrubbed)
-        (streak ∙ ap (λ s. after_event s o.thread (blocked_at r.blocked o.thread)) can.amid.streak ∙ ap (λ bs. after_event f.streak o.thread (blocked_at bs o.thread)) can.amid.blocked) due ended
+        (subst (λ (w : Waits). Notes w f'.waits o.thread (blocked_at f.blocked o.thread)) can.amid.waits (subst (λ (bs : List (Option Call)). Notes r.waits f'.waits o.thread (blocked_at bs o.thread)) can.amid.blocked waits)) due ended
         (ap length views ∙ h.views_count goes-on.not_ended ∙ h.seats_are.count ∙ (ordered f.job f.journal h.legal).replica_count ∙ sym many ∙ sym (length-applied o.event.effect can.replicas) ∙ sym (home-count f.job r.kernel.kernel f'.seats (all_applied o.event.effect can.replicas) home))
         fits (let b = can.amid.sent in omega arith) wrote can.no_end room
 

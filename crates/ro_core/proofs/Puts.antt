@@ -36,7 +36,6 @@ use Rattle.ro_legal.specs.Parts.{Lent, Whole, Pages, is_all, is_lent}
 use Rattle.ro_legal.specs.Core.{Job, Core, is_home, is_lease, is_out, is_taken}
 use Rattle.ro_legal.specs.Legal.{lease_run, arrival, stopped, faulted, wishing, missing, core_after_lease, after, IsAllowed, replay, output_of}
 use Rattle.ro_legal.specs.Laws.{AreBeside, elsewhere, sharing}
-use Rattle.ro_legal.specs.Streaks.{comes_last}
 use Rattle.ro_legal.proofs.Journals.{replay_more, outcome_of-append}
 use Rattle.ro_legal.proofs.Lists.{get-set-same, get-within}
 use Rattle.ro_legal.proofs.Leases.{fewer, or_true, same-lease, put-is, part-is}
@@ -50,15 +49,15 @@ use Rattle.ro_lease.specs.declared.Loan.{Loan}
 use Rattle.ro_lease.specs.declared.Loan.TheVariants as loans
 use Rattle.ro_core.specs.Wishing.{few_misses, missed_behind, wish_place, wished_behind, NotesFault}
 use Rattle.ro_core.specs.declared.wishing.Wish.{Wish}
-use Rattle.ro_core.specs.Fields.{has_left, is_away, AreNoted, AreWishes, IsWish, IsAtHome, IsSeat, Seated, AreSeated, one_end, Fields, core_in, blocked_at, IsAsleep, DoOthersSleep, Holds}
+use Rattle.ro_core.specs.Fields.{has_left, is_away, AreNoted, AreWishes, IsWish, IsAtHome, IsSeat, Seated, AreSeated, one_end, Fields, core_in, blocked_at, Holds}
 use Rattle.ro_core.specs.Seated.{CanTakeBack, TakesBack}
 use Rattle.ro_core.specs.Grouped.{Returns}
 use Rattle.ro_core.proofs.Wished.{missed-is, unwished-is, wished-is}
 use Rattle.ro_core.proofs.Away.{home-stays, there-whole}
 use Rattle.ro_core.proofs.Homes.{seat_there, differ_by, same_seat}
 use Rattle.ro_core.proofs.Grouped.{return-grouped, returned-ready}
-use Rattle.ro_core.proofs.Held.{no-views, no-outcome, same-counts, same-unblocked, holds-step}
-use Rattle.ro_core.proofs.Takes.{Rest, moved-asleep}
+use Rattle.ro_core.proofs.Held.{no-views, no-outcome, same-counts, same-unblocked, same-calm, same-waits, length-more, holds-step}
+use Rattle.ro_core.proofs.Takes.{Rest}
 
 -- ---- the core behind it
 
@@ -237,41 +236,6 @@ module _ (f : Fields) (h : Holds f) (core : CoreOf) (back : Back) (at : state co
 
   pub put-outcome : outcome_of f.journal ≡ None
   put-outcome = no-outcome f h still
-
-  -- it was the thread that comes last, where the others sleep
-  put-last : (leases : List Lease) → list_any (is_lease lease) leases ≡ true → list_all (λ l. comes_last f.streak l.thread) leases ≡ true → comes_last f.streak lease.thread ≡ true
-  put-last [] any all = absurd (true≢false (sym any))
-  put-last (l ∷ leases) any all =
-      let parts = and_parts (comes_last f.streak l.thread) (list_all (λ l. comes_last f.streak l.thread) leases) all in
-      by (is_lease lease l) refl parts.0 (λ others. put-last leases others parts.1)
-    where
-      by : (b : Bool) → is_lease lease l ≡ b → comes_last f.streak l.thread ≡ true → (list_any (is_lease lease) leases ≡ true → comes_last f.streak lease.thread ≡ true) → comes_last f.streak lease.thread ≡ true
-      by true e last rest =
-          subst (λ (t : ℕ). comes_last f.streak t ≡ true) (eqb-true l.thread lease.thread (and_parts ((l.driver == lease.driver) && (l.replica == lease.replica)) (l.thread == lease.thread) e).1) last
-      by false e last rest = rest (ap (λ (b : Bool). b || list_any (is_lease lease) leases) (sym e) ∙ any)
-
-  kept-last : (leases : List Lease) → list_all (λ l. comes_last f.streak l.thread) leases ≡ true → list_all (λ l. comes_last f.streak l.thread) (filter (λ l. not (is_lease lease l)) leases) ≡ true
-  kept-last [] all = refl
-  kept-last (l ∷ leases) all =
-      let parts = and_parts (comes_last f.streak l.thread) (list_all (λ l. comes_last f.streak l.thread) leases) all in by (not (is_lease lease l)) parts.0 (kept-last leases parts.1)
-    where
-      by : (b : Bool) → comes_last f.streak l.thread ≡ true → list_all (λ l. comes_last f.streak l.thread) (filter (λ l. not (is_lease lease l)) leases) ≡ true
-          → list_all (λ l. comes_last f.streak l.thread) (cond b (l ∷ filter (λ l. not (is_lease lease l)) leases) (filter (λ l. not (is_lease lease l)) leases)) ≡ true
-      by true last kept = and_from (comes_last f.streak l.thread) (list_all (λ l. comes_last f.streak l.thread) (filter (λ l. not (is_lease lease l)) leases)) last kept
-      by false last kept = kept
-
-  put-asleep : (f' : Fields) (stopped : Bool) → Rest f f' → f'.leases ≡ filter (λ l. not (is_lease lease l)) f.leases → Returns lease.replica lease.thread stopped f.groups f'.groups → DoOthersSleep f → DoOthersSleep f'
-  put-asleep f' stopped r leases returns others = moved-asleep f f' r (record { asleep = λ t less early. by t early (others.asleep t less early); unlent = ap (list_all (λ l. comes_last f.streak l.thread)) leases ∙ kept-last f.leases others.unlent })
-    where
-      last : comes_last f.streak lease.thread ≡ true
-      last = put-last f.leases (ap (list_any (is_lease lease)) h.leases_are ∙ came.out) others.unlent
-
-      other : (t : ℕ) → comes_last f.streak t ≡ false → t ≢ lease.thread
-      other t early e = true≢false (sym last ∙ ap (comes_last f.streak) (sym e) ∙ early)
-
-      by : (t : ℕ) → comes_last f.streak t ≡ false → IsAsleep f.kernel.kernel f.blocked f.groups t → IsAsleep f.kernel.kernel f.blocked f'.groups t
-      by t early (inl dead) = inl dead
-      by t early (inr (some, ready)) = inr (some, returned-ready lease.replica lease.thread stopped f.groups f'.groups returns t (other t early) ∙ ready)
 
   -- ---- the seats
 
@@ -544,10 +508,10 @@ module _ (f : Fields) (h : Holds f) (core : CoreOf) (back : Back) (at : state co
         blocked_count = ap length r.blocked ∙ h.blocked_count;
         blocked = λ t. ap (λ (bs : List (Option Call)). blocked_at bs t) r.blocked ∙ h.blocked_are t ∙ sym (ap (λ (c : Core). c.blocked t) came.behind);
         unblocked = same-unblocked f f' h r.kernel r.blocked r.unblocked;
-        others = λ e. put-asleep f' (is_some (stop_of replica lease.thread)) r leases returns (h.others_do (sym r.others_sleep ∙ e));
+        calm = same-calm f f' h r.kernel r.blocked r.waits r.calm;
         steps = r.steps ∙ h.steps_are ∙ sym (ap (λ (c : Core). c.steps) came.behind);
         scrubbed = r.scrubbed ∙ h.scrubbed_are ∙ sym (ap (λ (c : Core). c.scrubbed) came.behind);
-        streak = r.streak ∙ h.streak_is ∙ sym (ap (λ (c : Core). c.streak) came.behind);
+        waits = same-waits f f' h (after f.job (core_in f) entry) (ap (λ (c : Core). c.waited) came.behind) r.waits (ap length journal ∙ length-more f.journal entry);
         counts = same-counts f f' h _ (ap (λ (c : Core). c.output) came.behind) (ap (λ (c : Core). c.wrote) came.behind) r.sent wrote r.steps;
         due = r.due ∙ h.due_is ∙ sym (ap (λ (c : Core). c.due) came.behind);
         ended = r.ended ∙ h.ended_is ∙ sym (ap (λ (c : Core). c.ended) came.behind);

@@ -35,9 +35,7 @@ use Rattle.ro_legal.specs.Legal.{core_after_take, after, MayTake, output_of}
 use Rattle.ro_core.specs.Seen.{CoreOf, state, IsOfJob, IsLaneOfJob, IsLentWhole, IsLentPart}
 use Rattle.ro_core.specs.Seated.{CanLend, LendsPages}
 use Rattle.ro_group.specs.Groups.{Groups}
-use Rattle.ro_legal.specs.declared.actions.Streak.{Streak}
-use Rattle.ro_legal.specs.Streaks.{comes_last}
-use Rattle.ro_core.specs.Fields.{spare_of, has_left, is_away, lent_at, AreNoted, IsAtHome, GoesThere, Seated, AreSeated, IsSeat, one_end, Fields, core_in, blocked_at, IsAsleep, OthersSleep, DoOthersSleep, Holds}
+use Rattle.ro_core.specs.Fields.{spare_of, has_left, is_away, lent_at, AreNoted, IsAtHome, GoesThere, Seated, AreSeated, IsSeat, one_end, Fields, core_in, blocked_at, Holds}
 use Rattle.ro_legal.proofs.Journals.{replay_more, outcome_of-append}
 use Rattle.ro_legal.proofs.Beside.{listed-passes, sharing-is, sharing-stays}
 use Rattle.ro_legal.proofs.PageRuns.{calm-due}
@@ -49,7 +47,7 @@ use Rattle.ro_core.proofs.Homes.{seat_there, differ_by, same_seat}
 use Rattle.ro_core.specs.Grouped.{AreGrouped}
 use Rattle.ro_legal.proofs.Counted.{counted}
 use Rattle.ro_core.proofs.Tests.{made-is, gone, standing, lent-made}
-use Rattle.ro_core.proofs.Held.{Goes, goes, no-views, no-outcome, same-counts, same-unblocked, holds-step}
+use Rattle.ro_core.proofs.Held.{Goes, goes, no-views, no-outcome, same-counts, same-unblocked, same-calm, same-waits, length-more, holds-step}
 
 one-end-le : (o : Option How) → one_end o ≤ 1
 one-end-le None = omega arith
@@ -72,21 +70,14 @@ pub record Rest (f f' : Fields) : Type 0 where
   pub kernel : f'.kernel ≡ f.kernel
   pub blocked : f'.blocked ≡ f.blocked
   pub unblocked : f'.unblocked ≡ f.unblocked
-  pub others_sleep : f'.others_sleep ≡ f.others_sleep
+  pub calm : f'.calm ≡ f.calm
   pub steps : f'.steps ≡ f.steps
   pub scrubbed : f'.scrubbed ≡ f.scrubbed
-  pub streak : f'.streak ≡ f.streak
+  pub waits : f'.waits ≡ f.waits
   pub sent : f'.sent ≡ f.sent
   pub due : f'.due ≡ f.due
   pub ended : f'.ended ≡ f.ended
   pub views : f'.views ≡ f.views
-
--- other threads sleep by the same kernel, calls and streak
-pub moved-asleep : (f f' : Fields) → Rest f f' → OthersSleep f.kernel.kernel f.blocked f'.groups f.streak f'.leases → DoOthersSleep f'
-moved-asleep f f' r others =
-    subst (λ (k : State). OthersSleep k.kernel f'.blocked f'.groups f'.streak f'.leases) (sym r.kernel)
-    (subst (λ (bs : List (Option Call)). OthersSleep f.kernel.kernel bs f'.groups f'.streak f'.leases) (sym r.blocked)
-    (subst (λ (s : Streak). OthersSleep f.kernel.kernel f.blocked f'.groups s f'.leases) (sym r.streak) others))
 
 times-le : (a b n : ℕ) → a ≤ b → a * n ≤ b * n
 times-le a b n h = grind arith
@@ -132,26 +123,6 @@ module _ (f : Fields) (h : Holds f) (lease : Lease) (allowed : MayTake f.job (co
 
   pub take-goes-there : GoesThere f lease.replica lease.thread
   take-goes-there = (take-home.0, take-home.1, take-going take-home.0 take-home.1)
-
-  -- it is the thread that comes last, where the others sleep
-  take-last : DoOthersSleep f → comes_last f.streak lease.thread ≡ true
-  take-last others = by (comes_last f.streak lease.thread) refl
-    where
-      within : lease.thread < length f.kernel.kernel.lives
-      within = let n = lent-made (core_in f) lease.replica lease.thread allowed.lendable in let m = made-is f h in omega arith
-
-      awake : IsAsleep f.kernel.kernel f.blocked f.groups lease.thread → ⊥
-      awake (inl dead) = true≢false (sym allowed.lendable ∙ gone f h lease.thread dead lease.replica)
-      awake (inr (some, ready)) = true≢false (sym allowed.lendable ∙ standing f h lease.thread (ap not ready) lease.replica)
-
-      by : (b : Bool) → comes_last f.streak lease.thread ≡ b → comes_last f.streak lease.thread ≡ true
-      by true e = e
-      by false e = absurd (awake (others.asleep lease.thread within e))
-
-  take-asleep : (f' : Fields) → Rest f f' → f'.groups ≡ f.groups → f'.leases ≡ lease ∷ f.leases → DoOthersSleep f → DoOthersSleep f'
-  take-asleep f' r groups leases others = moved-asleep f f' r
-      (subst (λ (gs : Groups). OthersSleep f.kernel.kernel f.blocked gs f.streak f'.leases) (sym groups)
-      (subst (OthersSleep f.kernel.kernel f.blocked f.groups f.streak) (sym leases) (record { asleep = others.asleep; unlent = and_from (comes_last f.streak lease.thread) (list_all (λ l. comes_last f.streak l.thread) f.leases) (take-last others) others.unlent })))
 
   -- ---- the seats
 
@@ -296,10 +267,10 @@ module _ (f : Fields) (h : Holds f) (lease : Lease) (allowed : MayTake f.job (co
     blocked_count = ap length r.blocked ∙ h.blocked_count;
     blocked = λ t. ap (λ (bs : List (Option Call)). blocked_at bs t) r.blocked ∙ h.blocked_are t;
     unblocked = same-unblocked f f' h r.kernel r.blocked r.unblocked;
-    others = λ e. take-asleep f' r groups leases (h.others_do (sym r.others_sleep ∙ e));
+    calm = same-calm f f' h r.kernel r.blocked r.waits r.calm;
     steps = r.steps ∙ h.steps_are;
     scrubbed = r.scrubbed ∙ h.scrubbed_are;
-    streak = r.streak ∙ h.streak_is;
+    waits = same-waits f f' h (core_after_take (core_in f) lease) refl r.waits (ap length journal ∙ length-more f.journal (Take lease));
     counts = same-counts f f' h _ refl refl r.sent wrote r.steps;
     due = r.due ∙ h.due_is;
     ended = r.ended ∙ h.ended_is;

@@ -1,7 +1,7 @@
 -- What the core's tests say, from its fields.
 use Rattle.std.proofs.Common.{◌≡◌, ℕ, zero, suc, ◌<◌, Bool, true, false, true≢false, not, ◌&&◌, List, [], ◌∷◌, length, Option, Some, None, refl, sym, ap, ◌∙◌, subst, arith, inl, inr}
 use Rattle.std.specs.Prelude.{IsSome, ◌==◌, is_none, is_some, slice_get, slice_index_or}
-use Rattle.std.proofs.lemmas.Bool.{and_from, and_parts, and_left, and_right, eqb-true, eq-eqb, ne_eqb}
+use Rattle.std.proofs.lemmas.Bool.{and_parts, and_left, and_right, leb-true}
 use Rattle.std.proofs.lemmas.Option.{slice_get-get_or, slice_get_within}
 use Rattle.std.specs.List.{list_all, list_any}
 use Rattle.std.specs.Option.{option_and_then, option_map_or}
@@ -15,21 +15,24 @@ use Rattle.ro_plain.specs.Machine.{setup_of}
 use Rattle.ro_replica.specs.Replica.{Replica, stop_of}
 use Rattle.ro_replica.specs.Views.{is_unstopped}
 use Rattle.ro_replica.specs.Seen.{ReplicaOf, replica_of}
-use Rattle.ro_legal.specs.declared.actions.Action.TheVariants.{Vote as DoVote}
+use Rattle.ro_legal.specs.declared.actions.Action.{Action}
 use Rattle.ro_journal.specs.declared.Lease.{Lease}
 use Rattle.ro_legal.specs.Core.{Job, Core, is_going, nothing_lent, is_home, offers, is_awake, is_lendable, may_vote, may_free}
-use Rattle.ro_legal.specs.declared.actions.Streak.{Streak}
-use Rattle.ro_legal.specs.Streaks.{is_long, comes_last}
-use Rattle.ro_legal.specs.Action.{or_else, lowest_below, map_action, threads_made, is_turn, may_vote_in, may_lend_in, lend_in, lend_turn, turn_next}
+use Rattle.ro_legal.specs.Waits.{is_overdue}
+use Rattle.ro_legal.specs.Action.{lowest_below, threads_made, turn_of, is_urgent, urgent_next}
 use Rattle.ro_core.specs.Seen.{IsOfJob}
-use Rattle.ro_core.specs.Fields.{Seated, AreSeated, AreHome, seat_unstopped, Fields, core_in, blocked_at, is_unblocked, IsAsleep, DoOthersSleep, Holds}
+use Rattle.ro_core.specs.Fields.{Seated, AreSeated, AreHome, seat_unstopped, Fields, core_in, blocked_at, is_unblocked, Holds}
 use Rattle.ro_core.specs.Grouped.{seat_stopped}
 use Rattle.ro_group.specs.Groups.{is_ready}
 use Rattle.ro_core.proofs.Grouped.{ready-all}
 use Rattle.ro_core.proofs.Away.{home-stays, left-unoffered, whole-there, there-whole}
 use Rattle.ro_legal.proofs.Leases.{lendable-is, asleep-unlent, awake-lendable}
 use Rattle.ro_legal.proofs.Ordered.{ordered, vote-parts}
-use Rattle.ro_legal.proofs.Lowest.{lowest-found, lowest-none, lowest-never, lowest-same, lend-test, lends-none}
+use Rattle.ro_legal.proofs.Lowest.{lowest-never, lowest-same}
+use Rattle.ro_legal.proofs.Lists.{get-within}
+use Rattle.ro_legal.proofs.Nexts.{TurnIs, is_voted, is_lent_in, has_none, turn_is, none_most}
+use Rattle.ro_legal.proofs.Blocked.{AllAtCall, BlockedStand}
+use Rattle.ro_legal.proofs.Misses.{blocked-stand}
 use Rattle.ro_core.proofs.Sitting.{home-count}
 
 told : (b : Bool) → not b ≡ false → b ≡ true
@@ -43,9 +46,9 @@ pub none-freed : (job : Job) (core : Core) (n : ℕ) → (is_going core && nothi
 none-freed job core n busy =
     lowest-never (may_free job core) n (λ k. ap (λ (b : Bool). b && option_map_or (λ call. serves (setup_of job.program) core.kernel k call) (core.blocked k) false) busy)
 
-pub none-voted : (core : Core) (last : Bool) (n : ℕ) → (is_going core && nothing_lent core) ≡ false → lowest_below n (may_vote_in core last) ≡ None
-none-voted core last n busy =
-    lowest-never (may_vote_in core last) n (λ k. and_right (is_turn core last k) (may_vote core k) (ap (λ (b : Bool). b && lives_on core.kernel k && is_none (core.blocked k) && list_all (λ replica. is_some (stop_of replica k)) core.replicas) busy))
+pub none-voted : (core : Core) (n : ℕ) → (is_going core && nothing_lent core) ≡ false → lowest_below n (may_vote core) ≡ None
+none-voted core n busy =
+    lowest-never (may_vote core) n (λ k. ap (λ (b : Bool). b && lives_on core.kernel k && is_none (core.blocked k) && list_all (λ replica. is_some (stop_of replica k)) core.replicas) busy)
 
 -- ---- seats
 
@@ -109,9 +112,6 @@ module _ (f : Fields) (h : Holds f) where
   -- no replica answers calls by itself
   no-sides : (core_in f).sides ≡ []
   no-sides = (ordered f.job f.journal h.legal).no_sides
-
-  pub streak-is : (core_in f).streak ≡ f.streak
-  streak-is = sym h.streak_is
 
   -- what is left of the test of a vote where the rest holds
   pub vote-test : (thread : ℕ) → (is_going (core_in f) && nothing_lent (core_in f)) ≡ true → lives_on f.kernel.kernel thread ≡ true → (core_in f).blocked thread ≡ None → is_ready f.groups thread ≡ may_vote (core_in f) thread
@@ -177,10 +177,6 @@ module _ (f : Fields) (h : Holds f) where
   pub lendable-at : (replica thread : ℕ) → replica < length (core_in f).replicas → (seat_unstopped thread (slice_index_or f.seats replica None) && (lives_on f.kernel.kernel thread && offers (core_in f) replica thread)) ≡ is_lendable (core_in f) replica thread
   lendable-at replica thread less = is-lendable-is replica thread (slice_index_or f.seats replica None) (slice_get-get_or f.seats replica None (seat-within replica less))
 
-  -- a thread that doesn't come last
-  pub turn-of : (thread : ℕ) → false ≡ comes_last f.streak thread → is_turn (core_in f) false thread ≡ true
-  turn-of thread e = ap not (ap (λ (s : Streak). comes_last s thread) streak-is ∙ sym e)
-
   -- a thread that has exited, or stands still in every replica, can be lent in none
   pub gone : (thread : ℕ) → lives_on f.kernel.kernel thread ≡ false → (replica : ℕ) → is_lendable (core_in f) replica thread ≡ false
   gone thread dead replica = asleep-unlent (core_in f) replica thread
@@ -224,51 +220,7 @@ module _ (f : Fields) (h : Holds f) where
   pub count-is : length (core_in f).replicas ≡ f.job.settings.replicas
   count-is = (ordered f.job f.journal h.legal).replica_count
 
--- ---- the thread that comes last
-
--- where there is none
-none-last : (core : Core) → is_long core.streak ≡ false → (thread : ℕ) → comes_last core.streak thread ≡ false
-none-last core short thread = ap (λ (b : Bool). b && core.streak.thread == thread) short
-
-pub no-lease : (core : Core) → is_long core.streak ≡ false → lend_turn core true ≡ None
-no-lease core short =
-    ap (lend_in core true) (lowest-never (lend-test core true) (length core.replicas) (λ r.
-    lends-none core true r (lowest-never (may_lend_in core true r) (threads_made core) (λ t. ap (λ (b : Bool). b && is_lendable core r t) (none-last core short t)))))
-
-pub no-turn : (core : Core) → is_long core.streak ≡ false → turn_next core true ≡ None
-no-turn core short =
-    ap (λ (o : Option ℕ). or_else (map_action DoVote o) (lend_turn core true)) (lowest-never (may_vote_in core true) (threads_made core) (λ t. ap (λ (b : Bool). b && may_vote core t) (none-last core short t)))
-    ∙ no-lease core short
-
--- what does not hold of it holds of no thread that comes last
-only-last : (core : Core) (test : ℕ → Bool) → test core.streak.thread ≡ false → (k : ℕ) → (comes_last core.streak k && test k) ≡ false
-only-last core test fails k = by (core.streak.thread == k) refl
-  where
-    by : (b : Bool) → (core.streak.thread == k) ≡ b → (comes_last core.streak k && test k) ≡ false
-    by true e = and_right (comes_last core.streak k) (test k) (ap test (sym (eqb-true core.streak.thread k e)) ∙ fails)
-    by false e = and_left (comes_last core.streak k) (test k) (and_right (is_long core.streak) (core.streak.thread == k) e)
-
--- and what holds of it is found there first
-first-last : (core : Core) (test : ℕ → Bool) → is_long core.streak ≡ true → core.streak.thread < threads_made core → test core.streak.thread ≡ true → lowest_below (threads_made core) (λ k. comes_last core.streak k && test k) ≡ Some core.streak.thread
-first-last core test long made passes =
-    lowest-found (λ k. comes_last core.streak k && test k) core.streak.thread (threads_made core) made (lowest-none (λ k. comes_last core.streak k && test k) core.streak.thread (λ k less. others k less))
-    (and_from (comes_last core.streak core.streak.thread) (test core.streak.thread) (and_from (is_long core.streak) (core.streak.thread == core.streak.thread) long (eq-eqb core.streak.thread core.streak.thread refl)) passes)
-  where
-    others : (k : ℕ) → k < core.streak.thread → (comes_last core.streak k && test k) ≡ false
-    others k less = and_left (comes_last core.streak k) (test k) (and_right (is_long core.streak) (core.streak.thread == k) (ne_eqb core.streak.thread k (λ (e : core.streak.thread ≡ k). omega arith)))
-
--- its vote, and else its lease
-pub last-votes : (core : Core) → is_long core.streak ≡ true → core.streak.thread < threads_made core → may_vote core core.streak.thread ≡ true → turn_next core true ≡ Some (DoVote core.streak.thread)
-last-votes core long made may = ap (λ (o : Option ℕ). or_else (map_action DoVote o) (lend_turn core true)) (first-last core (may_vote core) long made may)
-
-pub last-lends : (core : Core) → may_vote core core.streak.thread ≡ false → turn_next core true ≡ lend_turn core true
-last-lends core may = ap (λ (o : Option ℕ). or_else (map_action DoVote o) (lend_turn core true)) (lowest-never (may_vote_in core true) (threads_made core) (only-last core (may_vote core) may))
-
-pub last-lent : (core : Core) (replica : ℕ) → is_long core.streak ≡ true → core.streak.thread < threads_made core → is_lendable core replica core.streak.thread ≡ true → lowest_below (threads_made core) (may_lend_in core true replica) ≡ Some core.streak.thread
-last-lent core replica long made lends = first-last core (is_lendable core replica) long made lends
-
-pub last-unlent : (core : Core) (replica : ℕ) → is_lendable core replica core.streak.thread ≡ false → lend-test core true replica ≡ false
-last-unlent core replica lends = lends-none core true replica (lowest-never (may_lend_in core true replica) (threads_made core) (only-last core (is_lendable core replica) lends))
+-- ---- who may be urgent
 
 -- a live thread was made
 pub lives-within : (kernel : Kernel) (thread : ℕ) → lives_on kernel thread ≡ true → thread < length kernel.lives
@@ -278,49 +230,48 @@ lives-within kernel thread e = by (slice_get kernel.lives thread) refl e
     by None f g = absurd (true≢false (sym g))
     by (Some life) f g = slice_get_within kernel.lives thread life f
 
--- so was one that can be voted on or lent
-pub voted-made : (core : Core) (thread : ℕ) → may_vote core thread ≡ true → thread < threads_made core
-voted-made core thread e = lives-within core.kernel thread (vote-parts core thread e).live
-
+-- so was one that can be lent
 pub lent-made : (core : Core) (replica thread : ℕ) → is_lendable core replica thread ≡ true → thread < threads_made core
 lent-made core replica thread e = lives-within core.kernel thread (lendable-is core replica thread e).lives
 
--- where each other thread can be lent nowhere
-others-unlent : (core : Core) → ((t : ℕ) → t < threads_made core → comes_last core.streak t ≡ false → (r : ℕ) → is_lendable core r t ≡ false) → lend_turn core false ≡ None
-others-unlent core stand =
-    ap (lend_in core false) (lowest-never (lend-test core false) (length core.replicas) (λ r.
-    lends-none core false r (lowest-none (may_lend_in core false r) (threads_made core) (λ t less. by r t less (comes_last core.streak t) refl))))
+-- a thread that stands at a call in a replica can't be lent in it
+stands-unlent : (core : Core) (replica thread : ℕ) → AllAtCall thread core.replicas → is_lendable core replica thread ≡ true → ⊥
+stands-unlent core replica thread stands e =
+    let there = lendable-is core replica thread e in
+    let at = stands replica there.value there.there in
+    true≢false (sym there.unstopped ∙ ap (λ (o : Option Thread). option_map_or (λ (t : Thread). is_none t.stop) o false) at.there ∙ ap is_none at.at)
+
+-- a thread that has a turn lives, and is not blocked
+turn-open : (job : Job) (core : Core) (thread : ℕ) → BlockedStand core → is_some (turn_of core thread) ≡ true → (lives_on core.kernel thread ≡ true) × (core.blocked thread ≡ None)
+turn-open job core thread stand some = by (turn_of core thread) (turn_is core thread) some
   where
-    by : (r t : ℕ) → t < threads_made core → (b : Bool) → comes_last core.streak t ≡ b → (not (comes_last core.streak t) && is_lendable core r t) ≡ false
-    by r t less true e = and_left (not (comes_last core.streak t)) (is_lendable core r t) (ap not e)
-    by r t less false e = and_right (not (comes_last core.streak t)) (is_lendable core r t) (stand t less e r)
+    unblocked : (replica : ℕ) → is_lendable core replica thread ≡ true → (o : Option Call) → core.blocked thread ≡ o → core.blocked thread ≡ None
+    unblocked replica may None e = e
+    unblocked replica may (Some call) e = absurd (stands-unlent core replica thread (stand thread call e) may)
 
--- the thread can be neither voted on nor lent
-pub record Sleeps (core : Core) (thread : ℕ) : Type 0 where
-  pub unvoted : may_vote core thread ≡ false
-  pub unlent : (replica : ℕ) → is_lendable core replica thread ≡ false
+    by : (o : Option Action) → TurnIs core thread o → is_some o ≡ true → (lives_on core.kernel thread ≡ true) × (core.blocked thread ≡ None)
+    by _ (is_voted may) e = ((vote-parts core thread may).live, (vote-parts core thread may).unblocked)
+    by _ (is_lent_in {replica = r} under may) e = ((lendable-is core r thread may).lives, unblocked r may (core.blocked thread) refl)
+    by _ (has_none unvoted unlent) e = absurd (true≢false (sym e))
 
--- where each other thread sleeps
-pub others-asleep : (core : Core) → ((t : ℕ) → t < threads_made core → comes_last core.streak t ≡ false → Sleeps core t) → turn_next core false ≡ None
-others-asleep core asleep =
-    ap (λ (o : Option ℕ). or_else (map_action DoVote o) (lend_turn core false)) (lowest-none (may_vote_in core false) (threads_made core) (λ t less. by t less (comes_last core.streak t) refl))
-    ∙ others-unlent core (λ t less early. (asleep t less early).unlent)
-  where
-    by : (t : ℕ) → t < threads_made core → (b : Bool) → comes_last core.streak t ≡ b → (not (comes_last core.streak t) && may_vote core t) ≡ false
-    by t less true e = and_left (not (comes_last core.streak t)) (may_vote core t) (ap not e)
-    by t less false e = and_right (not (comes_last core.streak t)) (may_vote core t) (asleep t less e).unvoted
+-- before the votes that were noted none is urgent
+module _ (f : Fields) (h : Holds f) (early : f.waits.votes < f.calm) where
+  none-urgent : (t : ℕ) → t < threads_made (core_in f) → is_urgent (core_in f) t ≡ false
+  none-urgent t less = by (is_urgent (core_in f) t) refl
+    where
+      low : t < 16
+      low = let few = (ordered f.job f.journal h.legal).few_lives in omega arith
 
--- a thread that is asleep sleeps, by the fields
-asleep-sleeps : (f : Fields) → Holds f → (thread : ℕ) → IsAsleep f.kernel.kernel f.blocked f.groups thread → Sleeps (core_in f) thread
-asleep-sleeps f h thread (inl dead) = record { unvoted = gone-unvoted f h thread dead; unlent = gone f h thread dead }
-asleep-sleeps f h thread (inr (some, ready)) = by (blocked_at f.blocked thread) refl some
-  where
-    by : (o : Option Call) → blocked_at f.blocked thread ≡ o → IsSome o → Sleeps (core_in f) thread
-    by None e is = absurd (true≢false (sym is))
-    by (Some call) e is = record { unvoted = blocked-unvoted f h thread call (blocked-is f h thread ∙ e); unlent = standing f h thread (ap not ready) }
+      by : (b : Bool) → is_urgent (core_in f) t ≡ b → is_urgent (core_in f) t ≡ false
+      by false e = e
+      by true e =
+          let parts = and_parts (is_overdue ((core_in f).waited t)) (is_some (turn_of (core_in f) t)) e in
+          let goes = turn-open f.job (core_in f) t (blocked-stand f.job f.journal h.legal) parts.1 in
+          let noted = get-within f.waits.since t (let n = h.waits_are.are.count in let l = low in omega arith) in
+          let since = h.waits_are.are.each t noted.0 noted.1 in
+          let soon = h.calm_is.each t noted.0 noted.1 (ap (λ (k : Kernel). lives_on k t) (sym (kernel-is f h)) ∙ goes.0) (sym (blocked-is f h t) ∙ goes.1) in
+          let long = leb-true 64 ((core_in f).waited t) parts.0 in
+          absurd (omega arith)
 
--- where it is known that the others sleep
-pub known-asleep : (f : Fields) → Holds f → DoOthersSleep f → turn_next (core_in f) false ≡ None
-known-asleep f h others = others-asleep (core_in f) (λ t less early.
-    let made : t < length f.kernel.kernel.lives = omega (arith, less, made-is f h) in
-    asleep-sleeps f h t (others.asleep t made (ap (λ (s : Streak). comes_last s t) (sym (streak-is f h)) ∙ early)))
+  pub calm-none : urgent_next (core_in f) ≡ None
+  calm-none = ap (option_and_then (turn_of (core_in f))) (none_most (core_in f) (threads_made (core_in f)) none-urgent)

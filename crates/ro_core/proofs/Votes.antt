@@ -45,7 +45,7 @@ use Rattle.ro_serving.specs.Happening.{event_by, ComesOf, of_stop, of_blocked, L
 use Rattle.ro_core.specs.Runs.{fields_of, job_of, IsHeld, IsAmid, MakesRoom, CanOccur, payload_by}
 use Rattle.ro_core.specs.Grouped.{AreGrouped, AreMade}
 use Rattle.ro_core.specs.Seated.{Stands}
-use Rattle.ro_core.proofs.Held.{Goes, SameLending, goes, same-unblocked, same-asleep, same-noted, same-lanes}
+use Rattle.ro_core.proofs.Held.{Goes, SameLending, goes, same-unblocked, same-calm, kept-waits, same-noted, same-lanes}
 use Rattle.ro_legal.proofs.Happens.{Happens, call-happens, event-happens}
 use Rattle.ro_legal.proofs.Ordered.{VoteParts, vote-parts, copied-sound, ordered}
 use Rattle.ro_legal.proofs.FaultStops.{each-copied, fault-stops}
@@ -380,9 +380,9 @@ length-applied effect replicas = length-mapped (λ replica. cancelled (applied e
 
 -- ---- fields that only made room
 
-kept-holds : (f f' : Fields) → Holds f → f.leases ≡ [] → f'.job ≡ f.job → f'.journal ≡ f.journal → AreHome f.job (core_in f).kernel f'.seats (core_in f).replicas → f'.leases ≡ f.leases → SameLending f f' → f'.kernel ≡ f.kernel → f'.blocked ≡ f.blocked → f'.unblocked ≡ f.unblocked → f'.others_sleep ≡ f.others_sleep → f'.steps ≡ f.steps → f'.scrubbed ≡ f.scrubbed → f'.streak ≡ f.streak → f'.due ≡ f.due → f'.ended ≡ f.ended → f'.views ≡ f.views → f'.sent ≡ f.sent → f'.wrote ≡ f.wrote
+kept-holds : (f f' : Fields) → Holds f → f.leases ≡ [] → f'.job ≡ f.job → f'.journal ≡ f.journal → AreHome f.job (core_in f).kernel f'.seats (core_in f).replicas → f'.leases ≡ f.leases → SameLending f f' → f'.kernel ≡ f.kernel → f'.blocked ≡ f.blocked → f'.unblocked ≡ f.unblocked → f'.calm ≡ f.calm → f'.steps ≡ f.steps → f'.scrubbed ≡ f.scrubbed → f'.waits ≡ f.waits → f'.due ≡ f.due → f'.ended ≡ f.ended → f'.views ≡ f.views → f'.sent ≡ f.sent → f'.wrote ≡ f.wrote
     → f'.groups ≡ f.groups → f.places ≤ f'.places → Holds f'
-kept-holds f f' h alone job journal home leases lending kernel blocked unblocked others steps scrubbed streak due ended views count wrote groups room =
+kept-holds f f' h alone job journal home leases lending kernel blocked unblocked calm steps scrubbed waits due ended views count wrote groups room =
     let core : core_in f' ≡ core_in f = ap (λ (j : Job). replay j f'.journal) job ∙ ap (replay f.job) journal in
     record {
       in_range = subst (λ (j : Job). InRange j.settings) (sym job) h.in_range;
@@ -395,10 +395,10 @@ kept-holds f f' h alone job journal home leases lending kernel blocked unblocked
       blocked_count = ap length blocked ∙ h.blocked_count;
       blocked_are = λ t. ap (λ (bs : List (Option Call)). blocked_at bs t) blocked ∙ h.blocked_are t ∙ sym (ap (λ (c : Core). c.blocked t) core);
       unblocked_is = same-unblocked f f' h kernel blocked unblocked;
-      others_do = same-asleep f f' h kernel blocked groups streak leases others;
+      calm_is = same-calm f f' h kernel blocked waits calm;
       steps_are = steps ∙ h.steps_are ∙ sym (ap (λ (c : Core). c.steps) core);
       scrubbed_are = scrubbed ∙ h.scrubbed_are ∙ sym (ap (λ (c : Core). c.scrubbed) core);
-      streak_is = streak ∙ h.streak_is ∙ sym (ap (λ (c : Core). c.streak) core);
+      waits_are = kept-waits f f' h (core_in f') (ap (λ (c : Core). c.waited) core) waits (ap length journal);
       counts = record {
         sent_are = count ∙ h.counts.sent_are ∙ ap (λ (c : Core). length c.output) (sym core);
         wrote_is = wrote ∙ h.counts.wrote_is ∙ ap (λ (c : Core). c.wrote) (sym core);
@@ -418,10 +418,10 @@ kept-holds f f' h alone job journal home leases lending kernel blocked unblocked
 pub ready-home : (f : Fields) → Holds f → f.leases ≡ [] → AreHome f.job (core_in f).kernel f.seats (core_in f).replicas
 ready-home f h alone = all-home f.job (core_in f) f.seats h.seats_are (sym h.leases_are ∙ alone)
 
-pub made-room : (f f' : Fields) → Holds f → f.leases ≡ [] → f'.job ≡ f.job → f'.journal ≡ f.journal → AreHome f.job (core_in f).kernel f'.seats (core_in f).replicas → f'.leases ≡ f.leases → SameLending f f' → f'.kernel ≡ f.kernel → f'.blocked ≡ f.blocked → f'.unblocked ≡ f.unblocked → f'.others_sleep ≡ f.others_sleep → f'.steps ≡ f.steps → f'.scrubbed ≡ f.scrubbed → f'.streak ≡ f.streak → f'.due ≡ f.due → f'.ended ≡ f.ended → f'.views ≡ f.views → f'.sent ≡ f.sent → f'.wrote ≡ f.wrote
+pub made-room : (f f' : Fields) → Holds f → f.leases ≡ [] → f'.job ≡ f.job → f'.journal ≡ f.journal → AreHome f.job (core_in f).kernel f'.seats (core_in f).replicas → f'.leases ≡ f.leases → SameLending f f' → f'.kernel ≡ f.kernel → f'.blocked ≡ f.blocked → f'.unblocked ≡ f.unblocked → f'.calm ≡ f.calm → f'.steps ≡ f.steps → f'.scrubbed ≡ f.scrubbed → f'.waits ≡ f.waits → f'.due ≡ f.due → f'.ended ≡ f.ended → f'.views ≡ f.views → f'.sent ≡ f.sent → f'.wrote ≡ f.wrote
     → f'.groups ≡ f.groups → f.places ≤ f'.places → MakesRoom f f'
-made-room f f' h alone job journal home leases lending kernel blocked unblocked others steps scrubbed streak due ended views count wrote groups room = record {
-  holds = kept-holds f f' h alone job journal home leases lending kernel blocked unblocked others steps scrubbed streak due ended views count wrote groups room;
+made-room f f' h alone job journal home leases lending kernel blocked unblocked calm steps scrubbed waits due ended views count wrote groups room = record {
+  holds = kept-holds f f' h alone job journal home leases lending kernel blocked unblocked calm steps scrubbed waits due ended views count wrote groups room;
   job = job;
   journal = journal;
   leases = leases;

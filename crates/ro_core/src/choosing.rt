@@ -1,26 +1,22 @@
 //! What the core does next.
-ghost use Rattle.std.specs.Prelude.{◌≡◌, ◌⊎◌, ◌<◌, ◌&&◌, ℕ, [], IsSome, None, length, not, true, false};
+ghost use Rattle.std.specs.Prelude.{◌≡◌, ◌<◌, ◌+◌, ◌^◌, ◌&&◌, ℕ, IfSome, None, length, not, true, false};
 ghost use Rattle.std.specs.Option.{option_map_or};
-ghost use Rattle.ro_group.specs.Groups.{is_ready};
-ghost use Rattle.ro_kernel.specs.Kernel.{lives_on};
 ghost use Rattle.ro_kernel.specs.Serve.{serves};
 ghost use Rattle.ro_legal.specs.Core.{is_going, nothing_lent, is_lendable, may_vote, may_free};
 ghost use Rattle.ro_legal.specs.Legal.{is_stuck, may_scrub};
-ghost use Rattle.ro_legal.specs.Streaks.{is_long};
-ghost use Rattle.ro_legal.specs.Action.{lowest_below, threads_made, may_vote_in, may_lend_in, lend_turn, turn_next, lend_next, first_action, is_scrub_due, scrub_action, next_action as next};
-ghost use Rattle.ro_core.specs.Fields.{first_unblocked, Holds, OthersSleep};
+ghost use Rattle.ro_legal.specs.Action.{lowest_below, or_else, threads_made, lend_next, turn_next, turn_of, is_urgent, outwaits, most_urgent_below, urgent_next, first_action, is_scrub_due, scrub_action, next_action as next};
+ghost use Rattle.ro_core.specs.Fields.{first_unblocked, Holds, IsCalm};
 ghost use Rattle.ro_core.specs.Runs.{fields_of, job_of, state_of};
 
 use crate::cores::{Core, THREADS};
-use crate::seats::Seats;
 use ro_event::Call;
 use ro_journal::How;
 use ro_kernel::Kernel;
-use ro_legal::{Action, Streak};
+use ro_legal::{Action, PATIENCE, Waits};
 
 impl Core {
-    /// What comes next: an end that is due; else, where nothing is lent, the lowest thread is freed or voted on; else the
-    /// lowest thread of the lowest replica is lent. A thread that had its votes in a row is voted on and lent last.
+    /// What comes next: an end that is due; else, where nothing is lent, the lowest thread is freed; else the thread that has
+    /// waited too long has its turn; else the lowest thread is voted on, or the lowest of the lowest replica is lent.
     pub fn next_action(&self) -> Action
         requires holds { Holds (fields_of self.now) }
         ensures next { result ≡ next (job_of self.now) (state_of self.now) }
@@ -75,46 +71,96 @@ impl Core {
         if let Some(thread) = self.lowest_to_free() {
             return Some(Action::Free(thread));
         }
-        match self.next_of_others() {
+        self.next_turn()
+    }
+
+    // The turn of a thread that has waited too long, and else the lowest.
+    #[inline]
+    fn next_turn(&self) -> Option<Action>
+        requires holds { Holds (fields_of self.now) }
+        ensures { result ≡ or_else (urgent_next (state_of self.now)) (turn_next (state_of self.now)) }
+    {
+        if self.waits.votes() < self.calm {
+            return self.turn_next();
+        }
+        match self.urgent_next() {
             Some(action) => Some(action),
-            None if self.streak.is_long() => self.next_of_last(),
+            None => self.turn_next(),
+        }
+    }
+
+    // The vote or the lease of the thread that has waited longest, if one has waited too long and can go on.
+    #[cold]
+    fn urgent_next(&self) -> Option<Action>
+        requires holds { Holds (fields_of self.now) }
+        ensures { result ≡ urgent_next (state_of self.now) }
+    {
+        match self.most_urgent() {
+            Some(thread) => self.turn_of(thread),
             None => None,
         }
     }
 
-    // The first vote or lease of a thread that doesn't come last.
-    fn next_of_others(&self) -> Option<Action>
+    // That thread, and of several the lowest.
+    fn most_urgent(&self) -> Option<u32>
         requires holds { Holds (fields_of self.now) }
-        ensures { result ≡ turn_next (state_of self.now) false }
+        ensures { result ≡ most_urgent_below (state_of self.now) (threads_made (state_of self.now)) }
     {
-        if self.others_sleep() {
-            return None;
+        let mut longest = None;
+        for thread in 0..self.kernel.made() {
+            if self.is_urgent(thread) && self.outwaits(thread, longest) {
+                longest = Some(thread);
+            }
         }
+        longest
+    }
+
+    // Whether a thread has waited too long, and can be voted on or lent.
+    fn is_urgent(&self, thread: u32) -> bool
+        requires holds { Holds (fields_of self.now) }
+        requires thread { thread < 16 }
+        ensures { result ≡ is_urgent (state_of self.now) thread }
+    {
+        self.waits.is_overdue(thread) && self.turn_of(thread).is_some()
+    }
+
+    // Whether a thread has waited longer than another one, if there is one.
+    fn outwaits(&self, thread: u32, other: Option<u32>) -> bool
+        requires holds { Holds (fields_of self.now) }
+        requires thread { thread < 16 }
+        requires other { IfSome other (λ t. t < 16) }
+        ensures { result ≡ outwaits (state_of self.now) thread other }
+    {
+        match other {
+            Some(other) => self.waits.waited(other) < self.waits.waited(thread),
+            None => true,
+        }
+    }
+
+    // What can be done for a thread: its vote, and else its lease in the lowest replica.
+    fn turn_of(&self, thread: u32) -> Option<Action>
+        requires holds { Holds (fields_of self.now) }
+        ensures { result ≡ turn_of (state_of self.now) thread }
+    {
+        if self.may_vote(thread) {
+            return Some(Action::Vote(thread));
+        }
+        for replica in 0..self.settings.replicas {
+            if self.is_lendable(replica, thread) {
+                return Some(Action::Lend { replica, thread });
+            }
+        }
+        None
+    }
+
+    // The lowest vote, and else a lease.
+    fn turn_next(&self) -> Option<Action>
+        requires holds { Holds (fields_of self.now) }
+        ensures { result ≡ turn_next (state_of self.now) }
+    {
         match self.lowest_to_vote() {
             Some(thread) => Some(Action::Vote(thread)),
-            None => self.lease_of_others(),
-        }
-    }
-
-    // Whether it is known that a thread comes last and all others sleep, so that none of these can be voted on or lent.
-    fn others_sleep(&self) -> bool
-        requires holds { Holds (fields_of self.now) }
-        ensures { result ≡ true → turn_next (state_of self.now) false ≡ None }
-    {
-        self.others_sleep
-    }
-
-    // The vote or the first lease of the thread that comes last.
-    fn next_of_last(&self) -> Option<Action>
-        requires holds { Holds (fields_of self.now) }
-        requires long { is_long (state_of self.now).streak ≡ true }
-        ensures { result ≡ turn_next (state_of self.now) true }
-    {
-        let thread = self.streak.thread;
-        if self.may_vote(thread) {
-            Some(Action::Vote(thread))
-        } else {
-            self.lease_of_last()
+            None => self.lowest_to_lend(),
         }
     }
 
@@ -128,38 +174,25 @@ impl Core {
         self.unblocked
     }
 
-    // The lowest thread that can be voted on and doesn't come last.
     fn lowest_to_vote(&self) -> Option<u32>
         requires holds { Holds (fields_of self.now) }
-        ensures { result ≡ lowest_below (threads_made (state_of self.now)) (may_vote_in (state_of self.now) false) }
+        ensures { result ≡ lowest_below (threads_made (state_of self.now)) (may_vote (state_of self.now)) }
     {
         if !self.is_idle() {
             return None;
         }
         for thread in 0..self.kernel.made() {
-            if !self.streak.comes_last(thread) && self.can_vote(thread) {
+            if self.can_vote(thread) {
                 return Some(thread);
             }
         }
         None
     }
 
-    // The first lease of any thread.
+    // The lowest lease of the lowest replica.
     fn lowest_to_lend(&self) -> Option<Action>
         requires holds { Holds (fields_of self.now) }
         ensures { result ≡ lend_next (state_of self.now) }
-    {
-        match self.lease_of_others() {
-            Some(action) => Some(action),
-            None if self.streak.is_long() => self.lease_of_last(),
-            None => None,
-        }
-    }
-
-    // The first lease of a thread that doesn't come last.
-    fn lease_of_others(&self) -> Option<Action>
-        requires holds { Holds (fields_of self.now) }
-        ensures { result ≡ lend_turn (state_of self.now) false }
     {
         for replica in 0..self.settings.replicas {
             if let Some(thread) = self.lowest_lendable(replica) {
@@ -169,30 +202,15 @@ impl Core {
         None
     }
 
-    // The lowest such thread that can be lent in a replica.
+    // The lowest thread that can be lent in a replica.
     fn lowest_lendable(&self, replica: u32) -> Option<u32>
         requires holds { Holds (fields_of self.now) }
         requires replica { replica < length (state_of self.now).replicas }
-        ensures { result ≡ lowest_below (threads_made (state_of self.now)) (may_lend_in (state_of self.now) false replica) }
+        ensures { result ≡ lowest_below (threads_made (state_of self.now)) (is_lendable (state_of self.now) replica) }
     {
         for thread in 0..self.kernel.made() {
-            if !self.streak.comes_last(thread) && self.is_lendable(replica, thread) {
-                return Some(thread);
-            }
-        }
-        None
-    }
-
-    // The first lease of the thread that comes last.
-    fn lease_of_last(&self) -> Option<Action>
-        requires holds { Holds (fields_of self.now) }
-        requires long { is_long (state_of self.now).streak ≡ true }
-        ensures { result ≡ lend_turn (state_of self.now) true }
-    {
-        let thread = self.streak.thread;
-        for replica in 0..self.settings.replicas {
             if self.is_lendable(replica, thread) {
-                return Some(Action::Lend { replica, thread });
+                return Some(thread);
             }
         }
         None
@@ -293,37 +311,35 @@ impl Core {
     }
 }
 
-/// Whether a thread comes last, and all others sleep.
-pub(crate) fn do_others_sleep(
-    streak: Streak,
+/// Until how many votes no thread that lives and is not blocked is overdue: as before an event, where that stays so.
+pub(crate) fn calm_behind(
+    waits: &Waits,
     kernel: &Kernel,
     blocked: &[Option<Call>; THREADS],
-    seats: &Seats,
-) -> bool
-    ensures { result ≡ true → OthersSleep kernel.now.kernel blocked.now seats.now.groups streak [] }
+    was: u64,
+    stays: bool,
+) -> u64
+    requires { stays ≡ true → IsCalm kernel.now.kernel blocked.now waits.now was }
+    ensures { IsCalm kernel.now.kernel blocked.now waits.now result }
 {
-    if !streak.is_long() {
-        return false;
+    if stays && waits.votes() < was {
+        was
+    } else {
+        calm_until(waits, kernel, blocked)
     }
-    for thread in 0..kernel.made() {
-        if !streak.comes_last(thread)
-            && !is_asleep(kernel, &blocked[thread as usize], seats, thread)
-        {
-            return false;
-        }
-    }
-    true
 }
 
-// Whether a thread has exited, or is blocked on this call, if it is, and stands still in every replica.
-fn is_asleep(kernel: &Kernel, blocked: &Option<Call>, seats: &Seats, thread: u32) -> bool
-    requires { thread < 16 }
-    ensures { result ≡ true → (lives_on kernel.now.kernel thread ≡ false) ⊎ (IsSome blocked.now × (is_ready seats.now.groups thread ≡ true)) }
+// The same, looked up anew.
+fn calm_until(waits: &Waits, kernel: &Kernel, blocked: &[Option<Call>; THREADS]) -> u64
+    ensures { IsCalm kernel.now.kernel blocked.now waits.now result }
 {
-    match blocked {
-        Some(_) => seats.ready(thread),
-        None => !kernel.lives_on(thread),
+    let mut calm = waits.votes().saturating_add(PATIENCE);
+    for thread in 0..kernel.made() {
+        if blocked[thread as usize].is_none() && kernel.lives_on(thread) {
+            calm = calm.min(waits.since(thread).saturating_add(PATIENCE));
+        }
     }
+    calm
 }
 
 /// The lowest thread whose call, on which it is blocked, would be done now: the one that was it, where that stays so.

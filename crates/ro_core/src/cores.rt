@@ -5,7 +5,7 @@ ghost use Rattle.ro_journal.specs.declared.Entry.TheVariants.{End};
 ghost use Rattle.ro_journal.specs.Plan.{outcome_of};
 ghost use Rattle.ro_legal.specs.Core.{is_going};
 ghost use Rattle.ro_legal.specs.declared.actions.Action.TheVariants.{End as DoEnd};
-ghost use Rattle.ro_legal.specs.Legal.{IsAllowed, MayEnd, EndsAlone, output_of};
+ghost use Rattle.ro_legal.specs.Legal.{IsAllowed, MayEnd, EndsAlone, EndsSink, output_of};
 ghost use Rattle.ro_legal.specs.Action.{next_action as next, IsNext};
 ghost use Rattle.ro_core.specs.Seen.{Appends, KeepsViews};
 ghost use Rattle.ro_core.specs.Fields.{Holds, HoldsUnseen};
@@ -18,7 +18,7 @@ use ro_faults::Fault;
 use ro_image::Executable;
 use ro_journal::{Entry, How, Lease};
 use ro_kernel::Kernel;
-use ro_legal::Streak;
+use ro_legal::Waits;
 use ro_replica::LaneBox;
 use ro_settings::Settings;
 use std::alloc::Global;
@@ -45,14 +45,14 @@ pub struct Core {
     pub(crate) blocked: [Option<Call>; THREADS],
     /// The lowest thread whose call, on which it is blocked, would be done now. Only an event changes which one that is.
     pub(crate) unblocked: Option<u32>,
-    /// Whether it is known that one thread comes last and all others sleep. Each event looks it up.
-    pub(crate) others_sleep: bool,
+    /// Until so many votes were held no thread that lives and is not blocked is overdue.
+    pub(crate) calm: u64,
     /// The length of the plan so far.
     pub(crate) steps: u64,
     /// How long it was at the last scrub.
     pub(crate) scrubbed: u64,
-    /// Whose votes came last, and how many in a row.
-    pub(crate) streak: Streak,
+    /// How long threads have waited.
+    pub(crate) waits: Waits,
     /// How many bytes the events wrote.
     pub(crate) sent: u64,
     /// How many of them the last entry's event did.
@@ -81,7 +81,8 @@ impl Core {
         requires holds { Holds (fields_of self.old) }
         requires now { (next (job_of self.old) (state_of self.old) ≡ DoEnd how) ⊎ EndsAlone (job_of self.old) (state_of self.old) how }
         ensures holds { Holds (fields_of self.new) }
-        ensures allowed { IsAllowed (job_of self.old) (state_of self.old) (End how) × IsNext (job_of self.old) (state_of self.old) (End how) }
+        ensures allowed { IsAllowed (job_of self.old) (state_of self.old) (End how) }
+        ensures next { (next (job_of self.old) (state_of self.old) ≡ DoEnd how) ⊎ EndsSink (state_of self.old) how → IsNext (job_of self.old) (state_of self.old) (End how) }
         ensures appends { Appends (silent self.old) (silent self.new) (End how) }
         ensures ended { (fields_of self.new).ended ≡ Some how }
     {
@@ -134,10 +135,10 @@ impl Core {
             kernel: _,
             blocked: _,
             unblocked: _,
-            others_sleep: _,
+            calm: _,
             steps: _,
             scrubbed: _,
-            streak: _,
+            waits: _,
             sent: _,
             wrote: _,
             due: _,

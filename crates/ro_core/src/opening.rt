@@ -19,7 +19,7 @@ use ro_group::Groups;
 use ro_image::Executable;
 use ro_journal::Entry;
 use ro_kernel::Kernel;
-use ro_legal::{Streak, lends_pages};
+use ro_legal::{Waits, lends_pages};
 use ro_limits::MOST_THREADS;
 use ro_region::Regions;
 use ro_replica::{Replica, ReplicaBox};
@@ -70,10 +70,10 @@ impl Core {
                 kernel: opening.kernel,
                 blocked: [None; THREADS],
                 unblocked: None,
-                others_sleep: false,
+                calm: 0,
                 steps: 0,
                 scrubbed: 0,
-                streak: Streak::new(),
+                waits: Waits::new(),
                 sent: 0,
                 wrote: 0,
                 due: None,

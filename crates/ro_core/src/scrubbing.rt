@@ -62,7 +62,6 @@ impl Core {
         self.journal.push_reserved(entry);
         self.wrote = 0;
         self.scrubbed = self.steps;
-        self.others_sleep = false;
         Ok(entry)
     }
 }

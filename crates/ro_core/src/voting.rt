@@ -8,7 +8,7 @@ ghost use Rattle.ro_core.specs.Seen.{Appends, IsOfMajority, Stays};
 ghost use Rattle.ro_legal.specs.Decides.{DecidesVote, DecidesFree, IsSplit};
 ghost use Rattle.ro_core.specs.Runs.{fields_of, job_of, state_of, silent, payload_by, MakesRoom, IsHeld, CanOccur, LastWrote};
 
-use crate::choosing::{do_others_sleep, unblocked_behind};
+use crate::choosing::{calm_behind, unblocked_behind};
 use crate::cores::Core;
 use crate::wishing::forgive;
 use ro_event::Call;
@@ -201,14 +201,13 @@ impl Core {
         let thread = noted.thread;
         let written = self.payload(noted.writer).len();
         let was = self.blocked[thread as usize];
-        let streak = self.streak.after_event(thread, was);
         let stays = leaves_blocked(event, was);
         self.seats.apply(&event.effect, noted.threads);
         self.journal.push_reserved(noted.entry);
-        self.streak = streak;
+        self.waits.note(thread, was);
         self.blocked[thread as usize] = event.blocked;
         self.unblocked = unblocked_behind(&self.kernel, &self.blocked, self.unblocked, stays);
-        self.others_sleep = do_others_sleep(streak, &self.kernel, &self.blocked, &self.seats);
+        self.calm = calm_behind(&self.waits, &self.kernel, &self.blocked, self.calm, stays);
         self.steps += noted.steps;
         self.sent += written as u64;
         self.wrote = written as u32;

@@ -1,12 +1,13 @@
 -- Where no scrubs are asked for none comes next.
-use Rattle.std.proofs.Common.{◌≡◌, ℕ, ◌+◌, Bool, true, false, not, ◌&&◌, ◌==◌, Option, Some, None, refl, sym, ap, subst}
+use Rattle.std.proofs.Common.{◌≡◌, ℕ, ◌+◌, Bool, true, false, not, ◌&&◌, ◌==◌, length, Option, Some, None, refl, sym, ap, subst}
 use Rattle.std.specs.Prelude.{is_some, if◌then◌else◌, nat_le}
+use Rattle.std.specs.Option.{option_and_then}
 use Rattle.ro_journal.specs.declared.How.{How}
 use Rattle.ro_journal.specs.declared.How.TheVariants.{Deadlock}
 use Rattle.ro_legal.specs.declared.actions.Action.{Action}
 use Rattle.ro_legal.specs.declared.actions.Action.TheVariants.{Vote as DoVote, Free as DoFree, Scrub as DoScrub, Lend, End as DoEnd, Wait}
-use Rattle.ro_legal.specs.Core.{Job, Core, nothing_lent, may_free}
-use Rattle.ro_legal.specs.Action.{or_else, lowest_below, map_action, threads_made, may_vote_in, may_lend_in, lend_in, lend_turn, turn_next, first_action, action_or, is_scrub_due, next_action}
+use Rattle.ro_legal.specs.Core.{Job, Core, nothing_lent, is_lendable, may_vote, may_free}
+use Rattle.ro_legal.specs.Action.{or_else, lowest_below, map_action, threads_made, lend_in, lend_next, turn_next, turn_of, urgent_next, first_action, action_or, is_scrub_due, next_action}
 use Rattle.ro_legal.proofs.Nexts.{next_over, next_due, next_first}
 
 abbrev IsOther : Action → Type 0
@@ -25,17 +26,31 @@ other-or : (one another : Option Action) → IfOther one → IfOther another →
 other-or None another is more = more
 other-or (Some action) another is more = is
 
-other-lent : (core : Core) (last : Bool) (o : Option ℕ) → IfOther (lend_in core last o)
-other-lent core last None = tt
-other-lent core last (Some replica) = other-mapped (λ thread. Lend replica thread) (λ thread. tt) (lowest_below (threads_made core) (may_lend_in core last replica))
+other-lent : (core : Core) (o : Option ℕ) → IfOther (lend_in core o)
+other-lent core None = tt
+other-lent core (Some replica) = other-mapped (λ thread. Lend replica thread) (λ thread. tt) (lowest_below (threads_made core) (is_lendable core replica))
 
-other-turn : (core : Core) (last : Bool) → IfOther (turn_next core last)
-other-turn core last = other-or (map_action DoVote (lowest_below (threads_made core) (may_vote_in core last))) (lend_turn core last) (other-mapped DoVote (λ thread. tt) (lowest_below (threads_made core) (may_vote_in core last))) (other-lent core last _)
+other-turn : (core : Core) → IfOther (turn_next core)
+other-turn core = other-or (map_action DoVote (lowest_below (threads_made core) (may_vote core))) (lend_next core) (other-mapped DoVote (λ thread. tt) (lowest_below (threads_made core) (may_vote core))) (other-lent core _)
+
+other-own : (core : Core) (thread : ℕ) → IfOther (turn_of core thread)
+other-own core thread = by (may_vote core thread)
+  where
+    lease : Option Action
+    lease = map_action (λ replica. Lend replica thread) (lowest_below (length core.replicas) (λ replica. is_lendable core replica thread))
+
+    by : (b : Bool) → IfOther (if b then Some (DoVote thread) else lease)
+    by true = tt
+    by false = other-mapped (λ replica. Lend replica thread) (λ replica. tt) (lowest_below (length core.replicas) (λ replica. is_lendable core replica thread))
+
+other-urgent : (core : Core) (o : Option ℕ) → IfOther (option_and_then (turn_of core) o)
+other-urgent core None = tt
+other-urgent core (Some thread) = other-own core thread
 
 other-first : (job : Job) (core : Core) → IfOther (first_action job core)
 other-first job core =
     other-or (map_action DoFree (lowest_below (threads_made core) (may_free job core))) _ (other-mapped DoFree (λ thread. tt) (lowest_below (threads_made core) (may_free job core)))
-    (other-or (turn_next core false) (turn_next core true) (other-turn core false) (other-turn core true))
+    (other-or (urgent_next core) (turn_next core) (other-urgent core _) (other-turn core))
 
 other-else : (b : Bool) (o : Option Action) → IfOther o → IsOther (action_or (if b then DoEnd Deadlock else Wait) o)
 other-else true None is = tt

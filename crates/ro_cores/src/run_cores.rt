@@ -7,7 +7,7 @@ ghost use Rattle.ro_journal.specs.Plan.{outcome_of};
 ghost use Rattle.ro_settings.specs.Ranges.{InRange};
 ghost use Rattle.ro_legal.specs.declared.actions.Action.TheVariants as act;
 ghost use Rattle.ro_legal.specs.Core.{may_vote, may_free, views_of};
-ghost use Rattle.ro_legal.specs.Legal.{MayTake, EndsAlone};
+ghost use Rattle.ro_legal.specs.Legal.{MayTake, EndsAlone, EndsSink};
 ghost use Rattle.ro_legal.specs.Action.{next_action as next};
 ghost use Rattle.ro_legal.specs.Decides.{IsSplit};
 ghost use Rattle.ro_legal.specs.Rules.{IsFit, Legal, IsAllowed, IsNext, DecidesVote, DecidesFree, DecidesScrub};
@@ -190,7 +190,8 @@ pub trait RunCore: Sized {
         requires holds { holds self.old }
         requires now { (next (seen self.old).job (left_by (seen self.old)) ≡ act.End how) ⊎ EndsAlone (seen self.old).job (left_by (seen self.old)) how }
         ensures holds { holds self.new }
-        ensures allowed { IsAllowed (seen self.old).job (left_by (seen self.old)) (End how) × IsNext (seen self.old).job (left_by (seen self.old)) (End how) }
+        ensures allowed { IsAllowed (seen self.old).job (left_by (seen self.old)) (End how) }
+        ensures next { (next (seen self.old).job (left_by (seen self.old)) ≡ act.End how) ⊎ EndsSink (left_by (seen self.old)) how → IsNext (seen self.old).job (left_by (seen self.old)) (End how) }
         ensures appends { Appends (seen self.old) (seen self.new) (End how) };
 
     /// How many entries there are, of which a journal can have but so many. It shows what holds of a core at any time.

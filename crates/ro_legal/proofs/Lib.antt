@@ -68,9 +68,12 @@ pub mod Misses
 -- a blocked thread stands at a call in every replica
 pub mod Blocked
 -- whose votes came last, and that such a thread comes behind all others
-pub mod Streaks
+pub mod Waiting
+-- who could go on waits for 79 votes of others at the most
+pub mod Bounded
 -- scrubs come in time
 pub mod InTime
+pub mod Upsets
 -- ---- cooperative runs
 -- journals that grow at their end
 pub mod TogetherJournals

@@ -3,11 +3,10 @@ use Rattle.std.proofs.Common.{◌≡◌, ℕ, zero, suc, ◌+◌, ◌-◌, ◌<�
 use Rattle.std.specs.Prelude.{is_none, is_some}
 use Rattle.ro_legal.specs.declared.actions.Action.{Action}
 use Rattle.ro_legal.specs.declared.actions.Action.TheVariants.{Vote, Free, Lend}
-use Rattle.ro_legal.specs.Streaks.{comes_last}
 use Rattle.ro_legal.specs.Core.{Job, Core, is_going, nothing_lent, is_lendable, may_vote, may_free}
 use Rattle.ro_legal.specs.Legal.{any_below, is_stuck}
-use Rattle.ro_legal.specs.Action.{or_else, lowest_below, map_action, threads_made, is_turn, may_vote_in, may_lend_in, lend_in, lend_turn, lend_next, first_action}
-use Rattle.ro_legal.proofs.Nexts.{found_below}
+use Rattle.ro_legal.specs.Action.{or_else, lowest_below, map_action, threads_made, lend_in, turn_next, lend_next, urgent_next, first_action}
+use Rattle.ro_legal.proofs.Nexts.{found_below, urgent-turn}
 
 -- ---- the lowest number that passes
 
@@ -57,19 +56,19 @@ any-lowest test (suc n) = by (lowest_below n test) (test n) (any-lowest test n)
 
 -- ---- what is lent next
 
-abbrev pub lend-test : Core → (last : Bool) → (replica : ℕ) → Bool
-lend-test core last replica = any_below (threads_made core) (may_lend_in core last replica)
+abbrev pub lend-test : Core → (replica : ℕ) → Bool
+lend-test core replica = any_below (threads_made core) (is_lendable core replica)
 
-pub lends-none : (core : Core) (last : Bool) (replica : ℕ) → lowest_below (threads_made core) (may_lend_in core last replica) ≡ None → lend-test core last replica ≡ false
-lends-none core last replica e = any-lowest (may_lend_in core last replica) (threads_made core) ∙ ap is_some e
+pub lends-none : (core : Core) (replica : ℕ) → lowest_below (threads_made core) (is_lendable core replica) ≡ None → lend-test core replica ≡ false
+lends-none core replica e = any-lowest (is_lendable core replica) (threads_made core) ∙ ap is_some e
 
-pub lends-found : (core : Core) (last : Bool) (replica thread : ℕ) → replica < length core.replicas → lowest_below replica (lend-test core last) ≡ None → lowest_below (threads_made core) (may_lend_in core last replica) ≡ Some thread → lend_turn core last ≡ Some (Lend replica thread)
-lends-found core last replica thread less none found =
-    ap (lend_in core last) (lowest-found (lend-test core last) replica (length core.replicas) less none (any-lowest (may_lend_in core last replica) (threads_made core) ∙ ap is_some found))
+pub lends-found : (core : Core) (replica thread : ℕ) → replica < length core.replicas → lowest_below replica (lend-test core) ≡ None → lowest_below (threads_made core) (is_lendable core replica) ≡ Some thread → lend_next core ≡ Some (Lend replica thread)
+lends-found core replica thread less none found =
+    ap (lend_in core) (lowest-found (lend-test core) replica (length core.replicas) less none (any-lowest (is_lendable core replica) (threads_made core) ∙ ap is_some found))
     ∙ ap (map_action (λ (t : ℕ). Lend replica t)) found
 
-pub lends-nothing : (core : Core) (last : Bool) (count : ℕ) → count ≡ length core.replicas → lowest_below count (lend-test core last) ≡ None → lend_turn core last ≡ None
-lends-nothing core last count same none = ap (lend_in core last) (ap (λ (n : ℕ). lowest_below n (lend-test core last)) (sym same) ∙ none)
+pub lends-nothing : (core : Core) (count : ℕ) → count ≡ length core.replicas → lowest_below count (lend-test core) ≡ None → lend_next core ≡ None
+lends-nothing core count same none = ap (lend_in core) (ap (λ (n : ℕ). lowest_below n (lend-test core)) (sym same) ∙ none)
 
 -- ---- what can be done
 
@@ -93,59 +92,38 @@ any-turned : (n m : ℕ) (test : ℕ → ℕ → Bool) → any_below m (λ k. an
 any-turned zero m test = any-never m
 any-turned (suc n) m test = any-either m (λ k. any_below n (λ j. test j k)) (test n) ∙ ap (λ (b : Bool). b || any_below m (test n)) (any-turned n m test)
 
-any-same : (n : ℕ) (one other : ℕ → Bool) → ((k : ℕ) → one k ≡ other k) → any_below n one ≡ any_below n other
-any-same zero one other same = refl
-any-same (suc n) one other same = ap (λ (b : Bool). b || one n) (any-same n one other same) ∙ ap (λ (b : Bool). any_below n other || b) (same n)
-
--- a test of the thread that comes last, and of all others
-any-turn : (core : Core) (n : ℕ) (test : ℕ → Bool) → (any_below n (λ thread. is_turn core false thread && test thread) || any_below n (λ thread. is_turn core true thread && test thread)) ≡ any_below n test
-any-turn core n test =
-    sym (any-either n (λ thread. is_turn core false thread && test thread) (λ thread. is_turn core true thread && test thread))
-    ∙ any-same n (λ thread. (is_turn core false thread && test thread) || (is_turn core true thread && test thread)) test (λ t. either (comes_last core.streak t) (test t))
-  where
-    either : (last b : Bool) → ((not last && b) || (last && b)) ≡ b
-    either true b = refl
-    either false true = refl
-    either false false = refl
-
--- nothing of these threads can be lent where none of any replica can
-none-in-turn : (core : Core) (last : Bool) → is_some (lend_turn core last) ≡ any_below (length core.replicas) (lend-test core last)
-none-in-turn core last = sym (any-lowest (lend-test core last) (length core.replicas) ∙ by (lowest_below (length core.replicas) (lend-test core last)) refl)
-  where
-    threads : (replica : ℕ) (o : Option ℕ) → lowest_below (threads_made core) (may_lend_in core last replica) ≡ o → lend-test core last replica ≡ true → true ≡ is_some (map_action (λ thread. Lend replica thread) o)
-    threads replica None e some = absurd (true≢false (sym some ∙ lends-none core last replica e))
-    threads replica (Some thread) e some = refl
-
-    by : (o : Option ℕ) → lowest_below (length core.replicas) (lend-test core last) ≡ o → is_some o ≡ is_some (lend_in core last o)
-    by None e = refl
-    by (Some replica) e = threads replica (lowest_below (threads_made core) (may_lend_in core last replica)) refl (found_below (length core.replicas) (lend-test core last) replica e)
-
 -- nothing can be lent where no thread of any replica can
 pub none-lent : (core : Core) → is_some (lend_next core) ≡ any_below (threads_made core) (λ thread. any_below (length core.replicas) (λ replica. is_lendable core replica thread))
-none-lent core =
-    either (lend_turn core false) (lend_turn core true)
-    ∙ ap (λ (b : Bool). b || is_some (lend_turn core true)) (none-in-turn core false)
-    ∙ ap (λ (b : Bool). any_below (length core.replicas) (lend-test core false) || b) (none-in-turn core true)
-    ∙ sym (any-either (length core.replicas) (lend-test core false) (lend-test core true))
-    ∙ any-same (length core.replicas) (λ replica. lend-test core false replica || lend-test core true replica) (λ replica. any_below (threads_made core) (is_lendable core replica)) (λ r. any-turn core (threads_made core) (is_lendable core r))
-    ∙ sym (any-turned (length core.replicas) (threads_made core) (is_lendable core))
+none-lent core = sym (any-turned (length core.replicas) (threads_made core) (is_lendable core) ∙ any-lowest (lend-test core) (length core.replicas) ∙ by (lowest_below (length core.replicas) (lend-test core)) refl)
   where
-    either : (a b : Option Action) → is_some (or_else a b) ≡ (is_some a || is_some b)
-    either None b = refl
-    either (Some x) b = refl
+    threads : (replica : ℕ) (o : Option ℕ) → lowest_below (threads_made core) (is_lendable core replica) ≡ o → lend-test core replica ≡ true → true ≡ is_some (map_action (λ thread. Lend replica thread) o)
+    threads replica None e some = absurd (true≢false (sym some ∙ lends-none core replica e))
+    threads replica (Some thread) e some = refl
+
+    by : (o : Option ℕ) → lowest_below (length core.replicas) (lend-test core) ≡ o → is_some o ≡ is_some (lend_in core o)
+    by None e = refl
+    by (Some replica) e = threads replica (lowest_below (threads_made core) (is_lendable core replica)) refl (found_below (length core.replicas) (lend-test core) replica e)
 
 pub some-none : {X : Type 0} (o : Option X) → is_none o ≡ not (is_some o)
 some-none None = refl
 some-none (Some x) = refl
 
+-- an urgent thread can be voted on or lent
+urgent-some : (job : Job) (core : Core) → is_some (or_else (urgent_next core) (turn_next core)) ≡ is_some (turn_next core)
+urgent-some job core = by (urgent_next core) refl
+  where
+    by : (o : Option Action) → urgent_next core ≡ o → is_some (or_else o (turn_next core)) ≡ is_some (turn_next core)
+    by None e = refl
+    by (Some action) e = sym (urgent-turn job core (ap is_some e))
+
 -- nothing can be done where nothing can be freed, voted on or lent
 none-first : (job : Job) (core : Core) → is_some (first_action job core) ≡ any_below (threads_made core) (λ thread. may_vote core thread || may_free job core thread || any_below (length core.replicas) (λ replica. is_lendable core replica thread))
 none-first job core =
-    by (lowest_below made (may_free job core)) (lowest_below made (may_vote_in core false)) (lowest_below made (may_vote_in core true)) (lend_turn core false) (lend_turn core true)
-    ∙ ap (λ (b : Bool). ((is_some (lowest_below made (may_vote_in core false)) || is_some (lowest_below made (may_vote_in core true))) || is_some (lowest_below made (may_free job core))) || b) (none-lent core)
-    ∙ ap (λ (b : Bool). ((b || is_some (lowest_below made (may_vote_in core true))) || is_some (lowest_below made (may_free job core))) || any_below made lends) (sym (any-lowest (may_vote_in core false) made))
-    ∙ ap (λ (b : Bool). ((any_below made (may_vote_in core false) || b) || is_some (lowest_below made (may_free job core))) || any_below made lends) (sym (any-lowest (may_vote_in core true) made))
-    ∙ ap (λ (b : Bool). (b || is_some (lowest_below made (may_free job core))) || any_below made lends) (any-turn core made (may_vote core))
+    freed (lowest_below made (may_free job core)) (or_else (urgent_next core) (turn_next core))
+    ∙ ap (λ (b : Bool). is_some (lowest_below made (may_free job core)) || b) (urgent-some job core ∙ turned (lowest_below made (may_vote core)) (lend_next core))
+    ∙ swap (is_some (lowest_below made (may_free job core))) (is_some (lowest_below made (may_vote core))) (is_some (lend_next core))
+    ∙ ap (λ (b : Bool). (is_some (lowest_below made (may_vote core)) || is_some (lowest_below made (may_free job core))) || b) (none-lent core)
+    ∙ ap (λ (b : Bool). (b || is_some (lowest_below made (may_free job core))) || any_below made lends) (sym (any-lowest (may_vote core) made))
     ∙ ap (λ (b : Bool). (any_below made (may_vote core) || b) || any_below made lends) (sym (any-lowest (may_free job core) made))
     ∙ sym (
     any-either made (λ thread. may_vote core thread || may_free job core thread) lends
@@ -157,15 +135,19 @@ none-first job core =
     lends : ℕ → Bool
     lends thread = any_below (length core.replicas) (λ replica. is_lendable core replica thread)
 
-    by : (free vote own : Option ℕ) (lend last : Option Action) → is_some (or_else (map_action Free free) (or_else (or_else (map_action Vote vote) lend) (or_else (map_action Vote own) last))) ≡ (((is_some vote || is_some own) || is_some free) || is_some (or_else lend last))
-    by (Some f) (Some v) own lend last = refl
-    by (Some f) None (Some o) lend last = refl
-    by (Some f) None None lend last = refl
-    by None (Some v) own lend last = refl
-    by None None (Some o) (Some l) last = refl
-    by None None (Some o) None last = refl
-    by None None None (Some l) last = refl
-    by None None None None last = refl
+    freed : (free : Option ℕ) (o : Option Action) → is_some (or_else (map_action Free free) o) ≡ (is_some free || is_some o)
+    freed None o = refl
+    freed (Some t) o = refl
+
+    turned : (vote : Option ℕ) (o : Option Action) → is_some (or_else (map_action Vote vote) o) ≡ (is_some vote || is_some o)
+    turned None o = refl
+    turned (Some t) o = refl
+
+    swap : (a b c : Bool) → (a || (b || c)) ≡ ((b || a) || c)
+    swap true true c = refl
+    swap true false c = refl
+    swap false true c = refl
+    swap false false c = refl
 
 pub stuck-by-first : (job : Job) (core : Core) (idle none : Bool) → idle ≡ (is_going core && nothing_lent core) → none ≡ is_none (first_action job core) → (idle && none) ≡ is_stuck job core
 stuck-by-first job core idle none e f = ap (λ (b : Bool). b && none) e ∙ ap (λ (b : Bool). is_going core && nothing_lent core && b) (f ∙ some-none (first_action job core) ∙ ap not (none-first job core))

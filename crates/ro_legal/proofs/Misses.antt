@@ -154,3 +154,7 @@ pub few-parts : (job : Job) (journal : List Entry) → Legal job journal → (re
 few-parts job journal legal replica thread =
     subst (λ (n : ℕ). n ≤ most_misses + 1) (misses-are job journal legal replica thread)
     ((legal-keeps job (KeepsCount job) (keeps-after job) (opening_core job) journal legal (keeps-opening job)).few replica thread)
+
+-- a thread that is blocked stands at a call in each replica
+pub blocked-stand : (job : Job) (journal : List Entry) → Legal job journal → BlockedStand (replay job journal)
+blocked-stand job journal legal = (legal-keeps job (KeepsCount job) (keeps-after job) (opening_core job) journal legal (keeps-opening job)).blocked

@@ -1,16 +1,17 @@
 -- What the next action says of the core.
-use Rattle.std.proofs.Common.{◌≡◌, ◌≢◌, inl, inr, ℕ, zero, suc, ◌<◌, Bool, true, false, true≢false, not, ◌&&◌, ◌||◌, length, Option, Some, None, refl, sym, ap, ◌∙◌, subst, arith}
+use Rattle.std.proofs.Common.{◌≡◌, inl, inr, ℕ, zero, suc, ◌<◌, ◌≤◌, Bool, true, false, true≢false, not, ◌&&◌, ◌||◌, length, Option, Some, None, refl, sym, ap, ◌∙◌, subst, arith}
 use Rattle.std.specs.Prelude.{is_none, is_some, if◌then◌else◌, unwrap_or}
-use Rattle.std.proofs.lemmas.Bool.{cases_lt, and_from, and_parts, or_from, or_parts, eqb-true, false_from_ne_true}
+use Rattle.std.specs.Option.{option_and_then}
+use Rattle.std.proofs.lemmas.Bool.{cases_lt, and_from, and_parts, or_from, or_parts, ltb-true, ltb-false, le-leb}
 use Rattle.ro_journal.specs.declared.How.{How}
-use Rattle.ro_journal.specs.declared.How.TheVariants.{Deadlock}
+use Rattle.ro_journal.specs.declared.How.TheVariants.{Deadlock, Sink}
 use Rattle.ro_legal.specs.declared.actions.Action.{Action}
 use Rattle.ro_legal.specs.declared.actions.Action.TheVariants.{Vote as DoVote, Free as DoFree, Scrub as DoScrub, Lend, End as DoEnd, Wait, Over}
 use Rattle.ro_legal.specs.Core.{Job, Core, is_going, nothing_lent, is_lendable, may_vote, may_free}
-use Rattle.ro_legal.specs.Legal.{any_below, is_stuck, may_scrub, MayEnd, due, alone}
-use Rattle.ro_legal.specs.Streaks.{comes_last}
+use Rattle.ro_legal.specs.Legal.{any_below, is_stuck, may_scrub, EndsAlone, EndsSink, MayEnd, due, alone}
+use Rattle.ro_legal.specs.Waits.{is_overdue}
 use Rattle.ro_legal.specs.Laws.{NothingFor, NotLendable}
-use Rattle.ro_legal.specs.Action.{or_else, lowest_below, map_action, threads_made, is_turn, may_vote_in, may_lend_in, lend_in, lend_turn, turn_next, lend_next, first_action, action_or, is_scrub_due, scrub_action, action_unless_due, next_action}
+use Rattle.ro_legal.specs.Action.{or_else, lowest_below, map_action, threads_made, lend_in, turn_next, lend_next, turn_of, is_urgent, outwaits, most_urgent_below, urgent_next, first_action, action_or, is_scrub_due, scrub_action, action_unless_due, next_action}
 
 -- no number below n passes
 none_below : (n : ℕ) (test : ℕ → Bool) → lowest_below n test ≡ None → any_below n test ≡ false
@@ -31,6 +32,15 @@ found_below (suc n) test k e = by (lowest_below n test) (test n) refl refl e (λ
     by (Some j) b f g h rest = rest (f ∙ h)
     by None true f g h rest = let same : n ≡ k = (let x : Some n ≡ Some k = h in cc) in ap test (sym same) ∙ g
     by None false f g h rest = absurd (let x : None ≡ Some k = h in cc)
+
+found_within : (n : ℕ) (test : ℕ → Bool) (k : ℕ) → lowest_below n test ≡ Some k → k < n
+found_within zero test k e = absurd (let x : None ≡ Some k = e in cc)
+found_within (suc n) test k e = by (lowest_below n test) (test n) refl e (λ f. found_within n test k f)
+  where
+    by : (o : Option ℕ) (b : Bool) → lowest_below n test ≡ o → or_else o (if b then Some n else None) ≡ Some k → (lowest_below n test ≡ Some k → k < n) → k < suc n
+    by (Some j) b f h rest = let low = rest (f ∙ h) in omega arith
+    by None true f h rest = let same : n ≡ k = (let x : Some n ≡ Some k = h in cc) in omega arith
+    by None false f h rest = absurd (let x : None ≡ Some k = h in cc)
 
 -- a test that fails at each number below n
 pub never_below : (n : ℕ) (test : ℕ → Bool) → any_below n test ≡ false → (k : ℕ) → k < n → test k ≡ false
@@ -53,34 +63,120 @@ mapped : (f : ℕ → Action) (o : Option ℕ) (rest : Option Action) (P : Optio
 mapped f None rest P some none = none refl
 mapped f (Some n) rest P some none = some n refl
 
--- what holds neither of the thread that comes last nor of any other
-neither : (last b : Bool) → (not last && b) ≡ false → (last && b) ≡ false → b ≡ false
-neither true b others own = own
-neither false b others own = others
+-- ---- the thread that has waited longest
 
--- no thread but the one that comes last can be lent
-abbrev OthersUnlent : Core → Type 0
-OthersUnlent core = lowest_below (length core.replicas) (λ replica. any_below (threads_made core) (may_lend_in core false replica)) ≡ None
+-- of the urgent threads below n: none, or one that no other has outwaited
+abbrev Best : Core → ℕ → Option ℕ → Type 0
+Best core n None = (k : ℕ) → k < n → is_urgent core k ≡ false
+Best core n (Some t) = (t < n) × (is_urgent core t ≡ true) × ((k : ℕ) → k < n → is_urgent core k ≡ true → core.waited k ≤ core.waited t)
 
--- nor voted on, and none at all freed
-record OthersWait (job : Job) (core : Core) : Type 0 where
-  free : lowest_below (threads_made core) (may_free job core) ≡ None
-  vote : lowest_below (threads_made core) (may_vote_in core false) ≡ None
-  lend : OthersUnlent core
+-- one thread more, which is urgent and has waited longer, or not
+best_more : (core : Core) (n : ℕ) (o : Option ℕ) (b : Bool) → (is_urgent core n && outwaits core n o) ≡ b → Best core n o → Best core (suc n) (if b then Some n else o)
+best_more core n o true e best =
+    let parts = and_parts (is_urgent core n) (outwaits core n o) e in (
+      omega arith,
+      parts.0,
+      λ k less urgent. elim (cases_lt k n) [
+        | inl below ↦ before o best parts.1 k below urgent
+        | inr last ↦ let same : k ≡ n = omega arith in let w : core.waited k ≡ core.waited n = ap core.waited same in omega arith
+      ],
+    )
+  where
+    before : (o : Option ℕ) → Best core n o → outwaits core n o ≡ true → (k : ℕ) → k < n → is_urgent core k ≡ true → core.waited k ≤ core.waited n
+    before None none longer k less urgent = absurd (true≢false (sym urgent ∙ none k less))
+    before (Some t) some longer k less urgent = let w = some.2 k less urgent in let l = ltb-true (core.waited t) (core.waited n) longer in omega arith
+best_more core n None false e best = λ k less. elim (cases_lt k n) [
+  | inl below ↦ best k below
+  | inr last ↦ let same : k ≡ n = omega arith in ap (is_urgent core) same ∙ left_of (is_urgent core n) e
+]
+  where
+    left_of : (b : Bool) → (b && true) ≡ false → b ≡ false
+    left_of true f = f
+    left_of false f = refl
+best_more core n (Some t) false e best = (
+  let low = best.0 in omega arith,
+  best.1,
+  λ k less urgent. elim (cases_lt k n) [
+    | inl below ↦ best.2 k below urgent
+    | inr last ↦ let same : k ≡ n = omega arith in let w : core.waited k ≡ core.waited n = ap core.waited same in let l = ltb-false (core.waited t) (core.waited n) (right_of (is_urgent core n) (ap (is_urgent core) (sym same) ∙ urgent) e) in omega arith
+  ],
+)
+  where
+    right_of : (b : Bool) → b ≡ true → (b && outwaits core n (Some t)) ≡ false → outwaits core n (Some t) ≡ false
+    right_of true is f = f
+    right_of false is f = absurd (true≢false (sym is))
 
--- a thread that passes among the others doesn't come last
-not_last : {X : Type 0} (last b : Bool) → (not last && b) ≡ true → last ≡ true → X
-not_last true b e late = absurd (true≢false (sym e))
-not_last false b e late = absurd (true≢false (sym late))
+is_best : (core : Core) (n : ℕ) → Best core n (most_urgent_below core n)
+is_best core zero = λ k less. absurd (omega arith)
+is_best core (suc n) = best_more core n (most_urgent_below core n) (is_urgent core n && outwaits core n (most_urgent_below core n)) refl (is_best core n)
+
+-- there is none where none is urgent
+pub none_most : (core : Core) (n : ℕ) → ((k : ℕ) → k < n → is_urgent core k ≡ false) → most_urgent_below core n ≡ None
+none_most core n calm = by (most_urgent_below core n) refl (is_best core n)
+  where
+    by : (o : Option ℕ) → most_urgent_below core n ≡ o → Best core n o → most_urgent_below core n ≡ None
+    by None e best = e
+    by (Some t) e best = absurd (true≢false (sym best.1 ∙ calm t best.0))
+
+-- what can be done for a thread
+pub data TurnIs (core : Core) (thread : ℕ) : Option Action → Type 0 where
+  is_voted : may_vote core thread ≡ true → TurnIs core thread (Some (DoVote thread))
+  is_lent_in : {replica : ℕ} → replica < length core.replicas → is_lendable core replica thread ≡ true → TurnIs core thread (Some (Lend replica thread))
+  has_none : may_vote core thread ≡ false → NotLendable core thread → TurnIs core thread None
+
+pub turn_is : (core : Core) (thread : ℕ) → TurnIs core thread (turn_of core thread)
+turn_is core thread = by (may_vote core thread) refl
+  where
+    replicas : ℕ
+    replicas = length core.replicas
+
+    test : ℕ → Bool
+    test r = is_lendable core r thread
+
+    lease : may_vote core thread ≡ false → (o : Option ℕ) → lowest_below replicas test ≡ o → TurnIs core thread (map_action (λ replica. Lend replica thread) o)
+    lease unvoted None e = has_none unvoted (λ r under. never_below replicas test (none_below replicas test e) r under)
+    lease unvoted (Some r) e = is_lent_in (found_within replicas test r e) (found_below replicas test r e)
+
+    by : (b : Bool) → may_vote core thread ≡ b → TurnIs core thread (if b then Some (DoVote thread) else map_action (λ replica. Lend replica thread) (lowest_below replicas test))
+    by true e = is_voted e
+    by false e = lease e (lowest_below replicas test) refl
+
+-- where nothing is
+turn_none : (core : Core) (thread : ℕ) → is_some (turn_of core thread) ≡ false → (may_vote core thread ≡ false) × NotLendable core thread
+turn_none core thread e = by (turn_of core thread) (turn_is core thread) e
+  where
+    by : (o : Option Action) → TurnIs core thread o → is_some o ≡ false → (may_vote core thread ≡ false) × NotLendable core thread
+    by None (has_none unvoted unlent) e = (unvoted, unlent)
+    by (Some action) t e = absurd (true≢false e)
+
+-- no urgent thread has waited longer than this one
+abbrev Foremost : Core → (thread : ℕ) → Type 0
+Foremost core thread = (other : ℕ) → other < threads_made core → is_urgent core other ≡ true → core.waited other ≤ core.waited thread
+
+-- and none can be freed
+abbrev ComesFirst : Job → Core → (thread : ℕ) → Type 0
+ComesFirst job core thread = (lowest_below (threads_made core) (may_free job core) ≡ None) × Foremost core thread
+
+-- where no thread is urgent
+foremost_of_none : (core : Core) (thread : ℕ) → Best core (threads_made core) None → Foremost core thread
+foremost_of_none core thread none other less urgent = absurd (true≢false (sym urgent ∙ none other less))
+
+-- nothing can be done for one that has waited for so many votes, and longer
+yields : (core : Core) (thread other : ℕ) → Foremost core thread → other < threads_made core → 64 ≤ core.waited other → core.waited thread < core.waited other → (may_vote core other ≡ false) × NotLendable core other
+yields core thread other foremost less long longer = turn_none core other (by (is_some (turn_of core other)) refl)
+  where
+    by : (b : Bool) → is_some (turn_of core other) ≡ b → is_some (turn_of core other) ≡ false
+    by false e = e
+    by true e = absurd (let w = foremost other less (and_from (is_overdue (core.waited other)) (is_some (turn_of core other)) (le-leb 64 (core.waited other) long) e) in omega arith)
 
 -- what comes next, and what holds of the core then
 data NextIs (job : Job) (core : Core) : Action → Type 0 where
   is_over : is_some core.ended ≡ true → NextIs job core Over
   is_end : {how : How} → core.ended ≡ None → MayEnd job core how → unwrap_or core.due Deadlock ≡ how → NextIs job core (DoEnd how)
   is_free : {thread : ℕ} → may_free job core thread ≡ true → is_scrub_due job core ≡ false → NextIs job core (DoFree thread)
-  is_vote : {thread : ℕ} → may_vote core thread ≡ true → is_scrub_due job core ≡ false → (comes_last core.streak thread ≡ true → OthersWait job core) → NextIs job core (DoVote thread)
+  is_vote : {thread : ℕ} → may_vote core thread ≡ true → is_scrub_due job core ≡ false → ComesFirst job core thread → NextIs job core (DoVote thread)
   is_scrub : may_scrub core ≡ true → NextIs job core DoScrub
-  is_lend : {replica thread : ℕ} → is_going core ≡ true → is_lendable core replica thread ≡ true → (comes_last core.streak thread ≡ true → OthersUnlent core) → NextIs job core (Lend replica thread)
+  is_lend : {replica thread : ℕ} → is_going core ≡ true → is_lendable core replica thread ≡ true → (is_scrub_due job core ≡ false → ComesFirst job core thread) → NextIs job core (Lend replica thread)
   is_wait : nothing_lent core ≡ false → NextIs job core Wait
 
 module _ (job : Job) (core : Core) where
@@ -90,98 +186,115 @@ module _ (job : Job) (core : Core) where
   abbrev free : Option ℕ
   free = lowest_below made (may_free job core)
 
-  abbrev vote : (last : Bool) → Option ℕ
-  vote last = lowest_below made (may_vote_in core last)
+  abbrev vote : Option ℕ
+  vote = lowest_below made (may_vote core)
 
   -- whether a thread of the replica can be lent
-  abbrev some_in : (last : Bool) → ℕ → Bool
-  some_in last replica = any_below made (may_lend_in core last replica)
+  abbrev some_in : ℕ → Bool
+  some_in replica = any_below made (is_lendable core replica)
 
-  abbrev lend : (last : Bool) → Option ℕ
-  lend last = lowest_below (length core.replicas) (some_in last)
+  abbrev lend : Option ℕ
+  lend = lowest_below (length core.replicas) some_in
 
-  -- where none is found the thread can't be voted on
-  none_voted : vote false ≡ None → vote true ≡ None → (t : ℕ) → t < made → may_vote core t ≡ false
-  none_voted others own t less =
-      neither (comes_last core.streak t) (may_vote core t) (never_below made (may_vote_in core false) (none_below made (may_vote_in core false) others) t less)
-      (never_below made (may_vote_in core true) (none_below made (may_vote_in core true) own) t less)
-
-  -- nor lent
-  none_of_turn : (last : Bool) → lend last ≡ None → (r t : ℕ) → r < length core.replicas → t < made → may_lend_in core last r t ≡ false
-  none_of_turn last lends r t under less =
-      never_below made (may_lend_in core last r) (never_below (length core.replicas) (some_in last) (none_below (length core.replicas) (some_in last) lends) r under) t less
-
-  none_lendable : lend false ≡ None → lend true ≡ None → (t : ℕ) → t < made → any_below (length core.replicas) (λ replica. is_lendable core replica t) ≡ false
-  none_lendable others own t less =
+  -- where none is found no thread can be lent
+  none_lendable : lend ≡ None → (t : ℕ) → t < made → any_below (length core.replicas) (λ replica. is_lendable core replica t) ≡ false
+  none_lendable lends t less =
       all_false_below (length core.replicas) (λ replica. is_lendable core replica t) (λ r under.
-      neither (comes_last core.streak t) (is_lendable core r t) (none_of_turn false others r t under less) (none_of_turn true own r t under less))
+      never_below made (is_lendable core r) (never_below (length core.replicas) some_in (none_below (length core.replicas) some_in lends) r under) t less)
 
   -- where nothing can be done the core is stuck
-  stuck : is_going core ≡ true → nothing_lent core ≡ true → OthersWait job core → vote true ≡ None → lend true ≡ None → is_stuck job core ≡ true
-  stuck going home others votes lends =
+  stuck : is_going core ≡ true → nothing_lent core ≡ true → free ≡ None → vote ≡ None → lend ≡ None → is_stuck job core ≡ true
+  stuck going home frees votes lends =
       and_from _ _ (and_from _ _ going home) (ap not (all_false_below made (λ thread. may_vote core thread || may_free job core thread || any_below (length core.replicas) (λ replica. is_lendable core replica thread)) (λ t less.
       or_from (may_vote core t || may_free job core t) (any_below (length core.replicas) (λ replica. is_lendable core replica t))
-      (or_from (may_vote core t) (may_free job core t) (none_voted others.vote votes t less) (never_below made (may_free job core) (none_below made (may_free job core) others.free) t less))
-      (none_lendable others.lend lends t less))))
+      (or_from (may_vote core t) (may_free job core t) (never_below made (may_vote core) (none_below made (may_vote core) votes) t less) (never_below made (may_free job core) (none_below made (may_free job core) frees) t less))
+      (none_lendable lends t less))))
 
   -- where nothing can be lent the replicas may be scrubbed
-  all_still : is_going core ≡ true → nothing_lent core ≡ true → lend false ≡ None → lend true ≡ None → may_scrub core ≡ true
-  all_still going home others own =
-      and_from _ _ (and_from _ _ going home) (ap not (all_false_below made (λ thread. any_below (length core.replicas) (λ replica. is_lendable core replica thread)) (none_lendable others own)))
+  all_still : is_going core ≡ true → nothing_lent core ≡ true → lend ≡ None → may_scrub core ≡ true
+  all_still going home lends =
+      and_from _ _ (and_from _ _ going home) (ap not (all_false_below made (λ thread. any_below (length core.replicas) (λ replica. is_lendable core replica thread)) (none_lendable lends)))
 
-  -- what can be lent of these threads, or nothing
-  lending : (last : Bool) (P : Option Action → Type 0) → ((r t : ℕ) → may_lend_in core last r t ≡ true → P (Some (Lend r t))) → (lend last ≡ None → P None) → P (lend_turn core last)
-  lending last P some none = by (lend last) refl
+  -- what can be lent, or nothing
+  lending : (P : Option Action → Type 0) → ((r t : ℕ) → is_lendable core r t ≡ true → P (Some (Lend r t))) → (lend ≡ None → P None) → P (lend_next core)
+  lending P some none = by lend refl
     where
-      by : (o : Option ℕ) → lend last ≡ o → P (lend_in core last o)
+      by : (o : Option ℕ) → lend ≡ o → P (lend_in core o)
       by None e = none e
-      by (Some r) e = threads (lowest_below made (may_lend_in core last r)) refl
+      by (Some r) e = threads (lowest_below made (is_lendable core r)) refl
         where
-          threads : (o : Option ℕ) → lowest_below made (may_lend_in core last r) ≡ o → P (map_action (λ thread. Lend r thread) o)
-          threads None f = absurd (true≢false (sym (found_below (length core.replicas) (some_in last) r e) ∙ none_below made (may_lend_in core last r) f))
-          threads (Some t) f = some r t (found_below made (may_lend_in core last r) t f)
+          threads : (o : Option ℕ) → lowest_below made (is_lendable core r) ≡ o → P (map_action (λ thread. Lend r thread) o)
+          threads None f = absurd (true≢false (sym (found_below (length core.replicas) some_in r e) ∙ none_below made (is_lendable core r) f))
+          threads (Some t) f = some r t (found_below made (is_lendable core r) t f)
 
-  -- what comes next of these threads, or nothing
-  turning : (last : Bool) (P : Option Action → Type 0) → ((t : ℕ) → may_vote_in core last t ≡ true → P (Some (DoVote t))) → (vote last ≡ None → (r t : ℕ) → may_lend_in core last r t ≡ true → P (Some (Lend r t))) → (vote last ≡ None → lend last ≡ None → P None) → P (turn_next core last)
-  turning last P votes lends none =
-      mapped DoVote (vote last) (lend_turn core last) P (λ t e. votes t (found_below made (may_vote_in core last) t e)) (λ e. lending last P (lends e) (none e))
+  -- where what is urgent has a turn, some thread has
+  pub urgent-turn : is_some (urgent_next core) ≡ true → is_some (turn_next core) ≡ true
+  urgent-turn some = by (is_some (turn_next core)) refl
+    where
+      vote_none : (o : Option ℕ) (l : Option Action) → is_some (or_else (map_action DoVote o) l) ≡ false → (o ≡ None) × (is_some l ≡ false)
+      vote_none None l f = (refl, f)
+      vote_none (Some t) l f = absurd (true≢false f)
 
-  -- of a lease of another thread, and of the one that comes last
-  lends_other : is_going core ≡ true → (r t : ℕ) → may_lend_in core false r t ≡ true → NextIs job core (Lend r t)
-  lends_other going r t e = is_lend going (and_parts (is_turn core false t) (is_lendable core r t) e).1 (λ late. not_last (comes_last core.streak t) (is_lendable core r t) e late)
+      lend_none : is_some (lend_next core) ≡ false → lend ≡ None
+      lend_none = lending (λ (o : Option Action). is_some o ≡ false → lend ≡ None) (λ r t may f. absurd (true≢false f)) (λ lends f. lends)
 
-  lends_last : is_going core ≡ true → OthersUnlent core → (r t : ℕ) → may_lend_in core true r t ≡ true → NextIs job core (Lend r t)
-  lends_last going others r t e = is_lend going (and_parts (is_turn core true t) (is_lendable core r t) e).1 (λ late. others)
+      has_turn : (t : ℕ) → t < made → is_some (turn_next core) ≡ false → (o : Option Action) → TurnIs core t o → is_some o ≡ true → ⊥
+      has_turn t less f _ (is_voted may) some =
+          true≢false (sym may ∙ never_below made (may_vote core) (none_below made (may_vote core) (vote_none vote (lend_next core) f).0) t less)
+      has_turn t less f _ (is_lent_in {replica = r} under may) some =
+          true≢false (sym may ∙ never_below (length core.replicas) (λ replica. is_lendable core replica t) (none_lendable (lend_none (vote_none vote (lend_next core) f).1) t less) r under)
+      has_turn t less f _ (has_none unvoted unlent) some = true≢false (sym some)
+
+      nothing : is_some (turn_next core) ≡ false → (o : Option ℕ) → Best core made o → is_some (option_and_then (turn_of core) o) ≡ true → ⊥
+      nothing f None best some = true≢false (sym some)
+      nothing f (Some t) best some = has_turn t best.0 f (turn_of core t) (turn_is core t) some
+
+      by : (b : Bool) → is_some (turn_next core) ≡ b → is_some (turn_next core) ≡ true
+      by true f = f
+      by false f = absurd (nothing f (most_urgent_below core made) (is_best core made) some)
 
   -- what is found comes next, or else something
   abbrev NextOr : Action → Option Action → Type 0
   NextOr otherwise o = NextIs job core (action_or otherwise o)
 
   -- while a scrub is due
-  by_scrub : is_going core ≡ true → (b : Bool) → nothing_lent core ≡ b → NextIs job core (action_or (if b then DoScrub else Wait) (lend_next core))
-  by_scrub going b lent =
-      lending false (λ (o : Option Action). NextOr (if b then DoScrub else Wait) (or_else o (lend_turn core true))) (λ r t e. lends_other going r t e) (λ others. lending true (NextOr (if b then DoScrub else Wait)) (λ r t e. lends_last going others r t e) (left b lent others))
+  by_scrub : is_going core ≡ true → is_scrub_due job core ≡ true → (b : Bool) → nothing_lent core ≡ b → NextIs job core (action_or (if b then DoScrub else Wait) (lend_next core))
+  by_scrub going due_now b lent = lending (NextOr (if b then DoScrub else Wait)) (λ r t e. is_lend going e (λ rests. absurd (true≢false (sym due_now ∙ rests)))) (left b lent)
     where
-      left : (b : Bool) → nothing_lent core ≡ b → lend false ≡ None → lend true ≡ None → NextIs job core (if b then DoScrub else Wait)
-      left true home others own = is_scrub (all_still going home others own)
-      left false out others own = is_wait out
+      left : (b : Bool) → nothing_lent core ≡ b → lend ≡ None → NextIs job core (if b then DoScrub else Wait)
+      left true home lends = is_scrub (all_still going home lends)
+      left false out lends = is_wait out
 
   by_first : core.ended ≡ None → core.due ≡ None → is_scrub_due job core ≡ false → (b : Bool) → nothing_lent core ≡ b → NextIs job core (action_or (if b then DoEnd Deadlock else Wait) (first_action job core))
   by_first still none rests b lent =
-      mapped DoFree free (or_else (turn_next core false) (turn_next core true)) (NextOr (if b then DoEnd Deadlock else Wait)) (λ t e. is_free (found_below made (may_free job core) t e) rests) (λ frees.
-      turning false (λ (o : Option Action). NextOr (if b then DoEnd Deadlock else Wait) (or_else o (turn_next core true))) (λ t e. is_vote (may false t e) rests (λ late. not_last (comes_last core.streak t) (may_vote core t) e late)) (λ votes r t e. lends_other going r t e) (λ votes lends.
-      let others : OthersWait job core = record { free = frees; vote = votes; lend = lends } in
-      turning true (NextOr (if b then DoEnd Deadlock else Wait)) (λ t e. is_vote (may true t e) rests (λ late. others)) (λ votes r t e. lends_last going lends r t e) (left b lent others)))
+      mapped DoFree free (or_else (urgent_next core) (turn_next core)) (NextOr (if b then DoEnd Deadlock else Wait)) (λ t e. is_free (found_below made (may_free job core) t e) rests) (λ frees.
+      by_urgent frees (most_urgent_below core made) (is_best core made))
     where
       going : is_going core ≡ true
       going = and_from _ _ (ap is_none none) (ap is_none still)
 
-      may : (last : Bool) (t : ℕ) → may_vote_in core last t ≡ true → may_vote core t ≡ true
-      may last t e = (and_parts (is_turn core last t) (may_vote core t) e).1
+      otherwise : Action
+      otherwise = if b then DoEnd Deadlock else Wait
 
-      left : (b : Bool) → nothing_lent core ≡ b → OthersWait job core → vote true ≡ None → lend true ≡ None → NextIs job core (if b then DoEnd Deadlock else Wait)
-      left true home others votes lends = is_end still (alone (stuck going home others votes lends)) (ap (λ (o : Option How). unwrap_or o Deadlock) none)
-      left false out others votes lends = is_wait out
+      left : (b : Bool) → nothing_lent core ≡ b → free ≡ None → vote ≡ None → lend ≡ None → NextIs job core (if b then DoEnd Deadlock else Wait)
+      left true home frees votes lends = is_end still (alone (stuck going home frees votes lends)) (ap (λ (o : Option How). unwrap_or o Deadlock) none)
+      left false out frees votes lends = is_wait out
+
+      -- nothing is urgent
+      by_turn : free ≡ None → Best core made None → NextOr otherwise (turn_next core)
+      by_turn frees calm =
+          mapped DoVote vote (lend_next core) (NextOr otherwise) (λ t e. is_vote (found_below made (may_vote core) t e) rests (frees, foremost_of_none core t calm)) (λ votes.
+          lending (NextOr otherwise) (λ r t e. is_lend going e (λ rests. (frees, foremost_of_none core t calm))) (left b lent frees votes))
+
+      -- a thread is
+      of_urgent : (t : ℕ) → ComesFirst job core t → is_urgent core t ≡ true → (o : Option Action) → TurnIs core t o → is_some o ≡ true → NextOr otherwise (or_else o (turn_next core))
+      of_urgent t first urgent _ (is_voted may) some = is_vote may rests first
+      of_urgent t first urgent _ (is_lent_in {replica = r} under may) some = is_lend going may (λ rests. first)
+      of_urgent t first urgent _ (has_none unvoted unlent) some = absurd (true≢false (sym some))
+
+      by_urgent : free ≡ None → (o : Option ℕ) → Best core made o → NextOr otherwise (or_else (option_and_then (turn_of core) o) (turn_next core))
+      by_urgent frees None calm = by_turn frees calm
+      by_urgent frees (Some t) best = of_urgent t (frees, best.2) best.1 (turn_of core t) (turn_is core t) (and_parts (is_overdue (core.waited t)) (is_some (turn_of core t)) best.1).1
 
   next_is : NextIs job core (next_action job core)
   unfolding next_action
@@ -192,7 +305,7 @@ module _ (job : Job) (core : Core) where
       by_due on None e = choose (is_scrub_due job core) refl
         where
           choose : (b : Bool) → is_scrub_due job core ≡ b → NextIs job core (if b then scrub_action core else action_or (if nothing_lent core then DoEnd Deadlock else Wait) (first_action job core))
-          choose true rests = by_scrub (and_from _ _ (ap is_none e) (ap is_none on)) (nothing_lent core) refl
+          choose true rests = by_scrub (and_from _ _ (ap is_none e) (ap is_none on)) rests (nothing_lent core) refl
           choose false rests = by_first on e rests (nothing_lent core) refl
 
       by : (b : Bool) → is_some core.ended ≡ b → NextIs job core (if b then Over else action_unless_due job core core.due)
@@ -221,44 +334,30 @@ module _ (job : Job) (core : Core) where
   vote_next thread e = by (comes (DoVote thread) e)
     where
       by : NextIs job core (DoVote thread) → may_vote core thread ≡ true
-      by (is_vote may rests others) = may
+      by (is_vote may rests first) = may
 
-  -- where a thread comes last, another one doesn't
-  other_early : (thread other : ℕ) → comes_last core.streak thread ≡ true → other ≢ thread → comes_last core.streak other ≡ false
-  other_early thread other late differs =
-      false_from_ne_true (comes_last core.streak other) (λ f. differs (sym (eqb-true core.streak.thread other (and_parts _ _ f).1) ∙ eqb-true core.streak.thread thread (and_parts _ _ late).1))
-
-  unlent : (other : ℕ) → comes_last core.streak other ≡ false → other < made → OthersUnlent core → NotLendable core other
-  unlent other early less lends r under = sym (ap (λ (b : Bool). not b && is_lendable core r other) early) ∙ none_of_turn false lends r other under less
-
-  -- the thread that comes last is voted on next where nothing can be done for another
-  pub last_voted : (thread : ℕ) → next_action job core ≡ DoVote thread → comes_last core.streak thread ≡ true → (other : ℕ) → other ≢ thread → other < made → NothingFor job core other
-  last_voted thread e late other differs less = by (comes (DoVote thread) e)
+  -- a thread that was outwaited is voted on next where nothing can be done for the other
+  pub outwaited_voted : (thread : ℕ) → next_action job core ≡ DoVote thread → (other : ℕ) → other < made → 64 ≤ core.waited other → core.waited thread < core.waited other → NothingFor job core other
+  outwaited_voted thread e other less long longer = by (comes (DoVote thread) e)
     where
-      early : comes_last core.streak other ≡ false
-      early = other_early thread other late differs
-
       by : NextIs job core (DoVote thread) → NothingFor job core other
-      by (is_vote may rests others) =
-          let wait : OthersWait job core = others late in (
-            never_below made (may_free job core) (none_below made (may_free job core) wait.free) other less,
-            sym (ap (λ (b : Bool). not b && may_vote core other) early) ∙ never_below made (may_vote_in core false) (none_below made (may_vote_in core false) wait.vote) other less,
-            unlent other early less wait.lend,
-          )
+      by (is_vote may rests first) =
+          let none = yields core thread other first.1 less long longer in
+          (never_below made (may_free job core) (none_below made (may_free job core) first.0) other less, none.0, none.1)
 
-  -- and lent next where no other can be lent
-  pub last_lent : (replica thread : ℕ) → next_action job core ≡ Lend replica thread → comes_last core.streak thread ≡ true → (other : ℕ) → other ≢ thread → other < made → NotLendable core other
-  last_lent replica thread e late other differs less = by (comes (Lend replica thread) e)
+  -- and lent next where the other can't be voted on or lent
+  pub outwaited_lent : (replica thread : ℕ) → next_action job core ≡ Lend replica thread → is_scrub_due job core ≡ false → (other : ℕ) → other < made → 64 ≤ core.waited other → core.waited thread < core.waited other → (may_vote core other ≡ false) × NotLendable core other
+  outwaited_lent replica thread e rests other less long longer = by (comes (Lend replica thread) e)
     where
-      by : NextIs job core (Lend replica thread) → NotLendable core other
-      by (is_lend going may others) = unlent other (other_early thread other late differs) less (others late)
+      by : NextIs job core (Lend replica thread) → (may_vote core other ≡ false) × NotLendable core other
+      by (is_lend going may first) = yields core thread other (first rests).1 less long longer
 
   -- no vote comes next while a scrub is due
   pub vote_rests : (thread : ℕ) → next_action job core ≡ DoVote thread → is_scrub_due job core ≡ false
   vote_rests thread e = by (comes (DoVote thread) e)
     where
       by : NextIs job core (DoVote thread) → is_scrub_due job core ≡ false
-      by (is_vote may rests others) = rests
+      by (is_vote may rests first) = rests
 
   -- a call that is to be served next may be served
   pub free_next : (thread : ℕ) → next_action job core ≡ DoFree thread → may_free job core thread ≡ true
@@ -286,7 +385,7 @@ module _ (job : Job) (core : Core) where
   lend_is_next replica thread e = by (comes (Lend replica thread) e)
     where
       by : NextIs job core (Lend replica thread) → (is_going core ≡ true) × (is_lendable core replica thread ≡ true)
-      by (is_lend going may others) = (going, may)
+      by (is_lend going may first) = (going, may)
 
   -- the core waits only for a lease
   pub wait_next : next_action job core ≡ Wait → nothing_lent core ≡ false
@@ -301,6 +400,11 @@ module _ (job : Job) (core : Core) where
     where
       by : NextIs job core Over → is_some core.ended ≡ true
       by (is_over ended) = ended
+
+-- the end of a failed sink comes alone
+pub sink_alone : (job : Job) (core : Core) (how : How) → EndsSink core how → EndsAlone job core how
+sink_alone job core (Sink bytes) e = e
+sink_alone job core how e = absurd e
 
 -- behind the end nothing comes
 pub next_over : (job : Job) (core : Core) → is_some core.ended ≡ true → next_action job core ≡ Over

@@ -4,7 +4,7 @@ use Rattle.ro_journal.specs.declared.Entry.{Entry}
 use Rattle.ro_journal.specs.declared.Entry.TheVariants.{Take, Put, Part, Vote, Free, Scrub, End}
 use Rattle.ro_legal.specs.declared.actions.Action.TheVariants.{Vote as DoVote, Free as DoFree, Lend, End as DoEnd}
 use Rattle.ro_legal.specs.Core.{Job, Core}
-use Rattle.ro_legal.specs.Legal.{EndsFree, EndsAlone}
+use Rattle.ro_legal.specs.Legal.{EndsFree, EndsSink}
 use Rattle.ro_legal.specs.Action.{next_action}
 use Rattle.ro_legal.specs.Cooperative.{EndsVote, after}
 
@@ -29,7 +29,7 @@ IsNext job core (Vote thread count won lost did) = next_action job core ≡ DoVo
 IsNext job core (Free thread) = next_action job core ≡ DoFree thread
 IsNext job core (Scrub won lost) = ⊥
 IsNext job core (End how) =
-    (next_action job core ≡ DoEnd how) ⊎ EndsAlone job core how
+    (next_action job core ≡ DoEnd how) ⊎ EndsSink core how
     ⊎ ((thread : ℕ) × (next_action job core ≡ DoVote thread) × EndsVote job core thread how)
     ⊎ ((thread : ℕ) × (next_action job core ≡ DoFree thread) × EndsFree job core how)
 

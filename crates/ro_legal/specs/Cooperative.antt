@@ -36,7 +36,7 @@ use Rattle.ro_legal.specs.Sides.{Parking, Side, opening_side, peer_with, is_ahea
 use Rattle.ro_legal.specs.Core.{Job, Core, is_lease, is_out, may_vote, may_free, views_of}
 use Rattle.ro_legal.specs.Core.{opening_core as opening_voted}
 use Rattle.ro_legal.specs.Event.{Event}
-use Rattle.ro_legal.specs.Streaks.{after_event}
+use Rattle.ro_legal.specs.Waits.{waited_behind}
 use Rattle.ro_legal.specs.Legal.{MayTake, EndsAlone, EndsFree, core_after_take, event_in, freed_event as freed_in, since_in, cut_output}
 
 unfoldable pub opening_core : Job → Core
@@ -164,7 +164,7 @@ core_after job core thread stop event = record {
   blocked = λ t. if t == thread then event.blocked else core.blocked t;
   steps = core.steps + event_steps event.did;
   scrubbed = core.scrubbed;
-  streak = after_event core.streak thread (core.blocked thread);
+  waited = waited_behind core.waited thread (core.blocked thread);
   output = core.output ++ event.payload;
   wrote = length event.payload;
   due = event.due;

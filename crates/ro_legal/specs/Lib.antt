@@ -1,4 +1,4 @@
-pub mod Streaks
+pub mod Waits
 pub mod Sides
 pub mod Parts
 pub mod Core
@@ -10,6 +10,7 @@ pub mod Jobs
 pub mod Decides
 pub mod Turns
 pub mod Sound
+pub mod Upsets
 pub mod Laws
 pub mod Cooperative
 pub mod Lent

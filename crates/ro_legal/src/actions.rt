@@ -1,10 +1,10 @@
-//! What the core does next, and whose turn to be voted on is over.
-ghost use Rattle.std.specs.Prelude.{◌≡◌};
-ghost use Rattle.ro_legal.specs.Streaks.{no_streak, after_vote, after_free, after_event, is_long, comes_last};
+//! What the core does next, and how long threads have waited.
+ghost use Rattle.std.specs.Prelude.{◌≡◌, ◌<◌, ◌≤◌, ◌+◌, ◌^◌, ℕ, Some, slice_get, slice_set};
+ghost use Rattle.ro_legal.specs.Waits.{AreWaits, waited_behind, is_overdue};
 
 use ro_event::Call;
 use ro_journal::How;
-use ro_limits::VOTES_IN_A_ROW;
+use ro_limits::{MOST_THREADS, VOTES_IN_A_ROW};
 
 /// What the core does next.
 #[derive(Clone, Copy, PartialEq, Eq, Debug)]
@@ -25,68 +25,73 @@ pub enum Action {
     Over,
 }
 
-/// Whose votes came last, and how many in a row, counted up to `VOTES_IN_A_ROW`.
+/// For how many votes of others a thread that can go on waits before it comes first.
+pub const PATIENCE: u64 = VOTES_IN_A_ROW as u64;
+
+/// How many threads there can be.
+const THREADS: usize = MOST_THREADS as usize;
+
+/// How long threads have waited: for how many votes of others since each was voted on or freed itself.
 #[derive(Clone, Copy, PartialEq, Eq, Debug)]
-pub struct Streak {
-    pub thread: u32,
-    pub votes: u32,
+pub struct Waits {
+    votes: u64,
+    since: [u64; THREADS],
 }
 
-impl Streak {
-    /// That of a run in which no thread was voted on.
-    pub fn new() -> Streak
-        ensures { result ≡ no_streak }
+impl Waits {
+    /// Those of a run in which no thread was voted on.
+    pub fn new() -> Waits
+        ensures waits { AreWaits result (λ thread. 0) }
+        ensures votes { result.votes ≡ 0 }
     {
-        Streak {
-            thread: 0,
+        Waits {
             votes: 0,
+            since: [0; THREADS],
         }
     }
 
-    /// What an event of a thread makes of it, which is a free where the thread was blocked on a call, else a vote.
-    pub fn after_event(self, thread: u32, blocked: Option<Call>) -> Streak
-        ensures { result ≡ after_event self thread blocked }
+    /// What an event of a thread makes of them, which is a free where the thread was blocked on a call, else a vote.
+    pub fn note(&mut self, thread: u32, blocked: Option<Call>)
+        requires few { self.old.votes + 1 < 2 ^ 64 }
+        requires thread { thread < 16 }
+        ensures waits { (waited : ℕ → ℕ) → AreWaits self.old waited → AreWaits self.new (waited_behind waited thread blocked) }
+        ensures since { self.new.since ≡ slice_set self.old.since thread self.new.votes }
+        ensures votes { (self.old.votes ≤ self.new.votes) × (self.new.votes ≤ self.old.votes + 1) }
     {
-        match blocked {
-            None => self.after_vote(thread),
-            Some(_) => self.after_free(thread),
+        if blocked.is_none() {
+            self.votes += 1;
         }
+        self.since[thread as usize] = self.votes;
     }
 
-    fn after_vote(self, thread: u32) -> Streak
-        ensures { result ≡ after_vote self thread }
+    /// How many votes were held.
+    pub fn votes(&self) -> u64
+        ensures { result ≡ self.now.votes }
     {
-        let votes = if self.thread != thread {
-            1
-        } else if self.votes < VOTES_IN_A_ROW {
-            self.votes + 1
-        } else {
-            self.votes
-        };
-        Streak { thread, votes }
+        self.votes
     }
 
-    fn after_free(self, thread: u32) -> Streak
-        ensures { result ≡ after_free self thread }
+    /// How many were when a thread was last voted on or freed.
+    pub fn since(&self, thread: u32) -> u64
+        requires thread { thread < 16 }
+        ensures { slice_get self.now.since thread ≡ Some result }
     {
-        if self.thread == thread {
-            self
-        } else {
-            Streak { thread, votes: 0 }
-        }
+        self.since[thread as usize]
     }
 
-    /// Whether a thread comes behind all others: the votes in a row were its own, and as many as it may have.
-    pub fn comes_last(self, thread: u32) -> bool
-        ensures { result ≡ comes_last self thread }
+    /// For how many votes of others a thread has waited.
+    pub fn waited(&self, thread: u32) -> u64
+        requires thread { thread < 16 }
+        ensures { (waited : ℕ → ℕ) → AreWaits self.now waited → result ≡ waited thread }
     {
-        self.is_long() && self.thread == thread
+        self.votes.saturating_sub(self.since(thread))
     }
 
-    /// Whether there is such a thread.
-    pub fn is_long(self) -> bool
-        ensures { result ≡ is_long self }
+    /// Whether a thread has waited so long that it comes first.
+    pub fn is_overdue(&self, thread: u32) -> bool
+        requires thread { thread < 16 }
+        ensures { (waited : ℕ → ℕ) → AreWaits self.now waited → result ≡ is_overdue (waited thread) }
     {
-        self.votes >= VOTES_IN_A_ROW
+        self.waited(thread) >= PATIENCE
     }
 }

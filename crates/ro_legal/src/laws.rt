@@ -16,13 +16,13 @@ ghost use Rattle.ro_journal.specs.Leases.{lease_to};
 ghost use Rattle.ro_legal.specs.Parts.{Lent, Pages, most_misses, run_with};
 ghost use Rattle.ro_legal.specs.Core.{Job, Core, opening_core, is_going, is_idle, is_out, is_lendable, may_vote, may_free, nothing_lent};
 ghost use Rattle.ro_legal.specs.Legal.{Legal, MayEnd, may_scrub, replay};
-ghost use Rattle.ro_legal.specs.Streaks.{AreOfThread, votes_in, streak_of};
-ghost use Rattle.ro_legal.specs.Action.{threads_made, next_action, EachIsNext};
+ghost use Rattle.ro_legal.specs.Waits.{IsOfAnother, votes_in, waited_of};
+ghost use Rattle.ro_legal.specs.Action.{threads_made, is_scrub_due, next_action, EachIsNext};
 ghost use Rattle.ro_legal.specs.Laws.{NothingFor, NotLendable, Names, HasLease, AreBeside, thread_in, Answers, LeavesBlocked, LetsGoOn, hits, has_come, parts_since, LeavesThread};
 ghost use Rattle.ro_legal.specs.Turns.{TakesTurns};
 ghost use Rattle.ro_legal.specs.Cooperative.{Legal as LegalTogether, replay as replay_together};
 ghost use Rattle.ro_legal.specs.Kept.{KeepsReplicas, KeepsMutexes, HasPeer, NoFurtherAhead};
-ghost use Rattle.ro_kernel.specs.Kernel.{Kernel, ranges_in};
+ghost use Rattle.ro_kernel.specs.Kernel.{Kernel, lives_on, ranges_in};
 ghost use Rattle.ro_plain.specs.Machine.{setup_of};
 ghost use Rattle.ro_peer.specs.Peers.{Peer};
 
@@ -130,16 +130,23 @@ pub fn scrubs_come_in_time()
     ensures { (job : Job) → 0 < job.settings.scrub → (journal : List Entry) → Legal job journal → EachIsNext job (opening_core job) journal → (replay job journal).steps ≤ (replay job journal).scrubbed + job.settings.scrub + job.settings.watchdog }
 {}
 
-/// Whose votes came last, and how many in a row: the core keeps what its journal says.
-pub fn streaks_are_counted()
-    ensures { (job : Job) (journal : List Entry) → Legal job journal → (replay job journal).streak ≡ streak_of journal }
+/// The core keeps how long each thread has waited, by what its journal says.
+pub fn waits_are_counted()
+    ensures { (job : Job) (journal : List Entry) → Legal job journal → (thread : ℕ) → (replay job journal).waited thread ≡ waited_of journal thread }
 {}
 
-/// A thread of which 64 votes came, with no vote and no free of another between, comes behind all others: it is voted on next
-/// only where no other thread can be freed, voted on or lent, and lent next only where no other can be lent.
-pub fn others_come_first()
-    ensures vote { (job : Job) (before row : List Entry) (thread : ℕ) → Legal job (before ++ row) → AreOfThread thread row → 64 ≤ votes_in row → next_action job (replay job (before ++ row)) ≡ act.Vote thread → (other : ℕ) → other ≢ thread → other < threads_made (replay job (before ++ row)) → NothingFor job (replay job (before ++ row)) other }
-    ensures lend { (job : Job) (before row : List Entry) (thread : ℕ) → Legal job (before ++ row) → AreOfThread thread row → 64 ≤ votes_in row → (replica : ℕ) → next_action job (replay job (before ++ row)) ≡ act.Lend replica thread → (other : ℕ) → other ≢ thread → other < threads_made (replay job (before ++ row)) → NotLendable (replay job (before ++ row)) other }
+/// A thread that has waited for 64 votes of others comes before each that waited for fewer than it did: where such a one is
+/// voted on next nothing can be done for the thread, and where such a one is lent next, and no scrub is due, the thread can't
+/// be voted on or lent. It holds of a core of either mode.
+pub fn who_waited_comes_first()
+    ensures vote { (job : Job) (core : Core) (thread : ℕ) → next_action job core ≡ act.Vote thread → (other : ℕ) → other < threads_made core → 64 ≤ core.waited other → core.waited thread < core.waited other → NothingFor job core other }
+    ensures lend { (job : Job) (core : Core) (replica thread : ℕ) → next_action job core ≡ act.Lend replica thread → is_scrub_due job core ≡ false → (other : ℕ) → other < threads_made core → 64 ≤ core.waited other → core.waited thread < core.waited other → (may_vote core other ≡ false) × NotLendable core other }
+{}
+
+/// No thread that could go on waits for more than 79 votes of others: where each entry is what the core does next, and a
+/// thread lives and is not blocked, so many votes come at the most before one of its own.
+pub fn waits_are_bounded()
+    ensures { (job : Job) (before row : List Entry) → Legal job (before ++ row) → EachIsNext job (opening_core job) (before ++ row) → (thread : ℕ) → lives_on (replay job before).kernel thread ≡ true → (replay job before).blocked thread ≡ None → All (IsOfAnother thread) row → votes_in row ≤ 79 }
 {}
 
 /// What every legal cooperative journal of a run without faults keeps of the replicas, the kernel and the counts.

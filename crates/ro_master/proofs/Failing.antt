@@ -8,14 +8,14 @@ use Rattle.ro_journal.specs.declared.Entry.TheVariants.{End}
 use Rattle.ro_journal.specs.declared.Lease.{Lease}
 use Rattle.ro_legal.specs.declared.actions.Action.TheVariants.{End as DoEnd, Scrub as DoScrub, Over}
 use Rattle.ro_legal.specs.Core.{Job, Core, may_vote, may_free}
-use Rattle.ro_legal.specs.Legal.{MayTake, EndsAlone, may_scrub, cut_output}
+use Rattle.ro_legal.specs.Legal.{MayTake, EndsAlone, EndsSink, may_scrub, cut_output}
 use Rattle.ro_legal.specs.Action.{next_action}
 use Rattle.ro_legal.specs.Rules.{IsFit, Legal, replay, replay_with, output_of}
 use Rattle.ro_legal.specs.Sound.{IsOver}
-use Rattle.ro_legal.proofs.Nexts.{end_is, scrub_next}
+use Rattle.ro_legal.proofs.Nexts.{end_is, scrub_next, sink_alone}
 use Rattle.ro_legal.proofs.Ordered.{going-parts}
 use Rattle.ro_legal.proofs.Rules.{replay-more, end-output, due-over}
-use Rattle.ro_core.specs.Seen.{CoreOf, EndsNow, Stays}
+use Rattle.ro_core.specs.Seen.{CoreOf, Stays}
 use Rattle.ro_cores.specs.Cores.{left_by, state, sent_of, HasRoom, Quiet, with_sink}
 use Rattle.ro_master.specs.Sessions.{Cuts}
 
@@ -81,34 +81,32 @@ module _ (core : CoreOf) (failed : Option ℕ) where
 
   -- ---- an end that is due, or comes alone
 
-  module _ (fit : IsFit core.job) (legal : Legal core.job core.journal) (cuts : Cuts core failed) (how : How) (ends : EndsNow core.job now how) where
+  module _ (fit : IsFit core.job) (legal : Legal core.job core.journal) (cuts : Cuts core failed) (how : How) (ends : next_action core.job now ≡ DoEnd how) where
     pub sink-end : (taken : ℕ) → failed ≡ Some taken → how ≡ Sink taken
-    sink-end taken e = by (subst (λ (o : Option ℕ). EndsNow core.job (replay_with core.job core.journal o) how) e ends)
-      where
-        by : EndsNow core.job (replay_with core.job core.journal (Some taken)) how → how ≡ Sink taken
-        by (inl next) = sym (end_is core.job (replay_with core.job core.journal (Some taken)) how next)
-        by (inr stuck) = absurd (true≢false (sym stuck.1))
+    sink-end taken e = sym (end_is core.job (replay_with core.job core.journal (Some taken)) how (subst (λ (o : Option ℕ). next_action core.job (replay_with core.job core.journal o) ≡ DoEnd how) e ends))
 
-    pub end-comes : (next_action core.job (left_by core) ≡ DoEnd how) ⊎ EndsAlone core.job (left_by core) how
+    pub end-comes : (next_action core.job (left_by core) ≡ DoEnd how) ⊎ EndsSink (left_by core) how
     end-comes = by failed refl
       where
-        plain : EndsNow core.job (left_by core) how → (next_action core.job (left_by core) ≡ DoEnd how) ⊎ EndsAlone core.job (left_by core) how
-        plain (inl next) = inl next
-        plain (inr stuck) = inr (subst (EndsAlone core.job (left_by core)) (sym stuck.0) stuck.1)
-
-        by : (o : Option ℕ) → failed ≡ o → (next_action core.job (left_by core) ≡ DoEnd how) ⊎ EndsAlone core.job (left_by core) how
-        by None e = plain (subst (λ (o : Option ℕ). EndsNow core.job (replay_with core.job core.journal o) how) e ends)
+        by : (o : Option ℕ) → failed ≡ o → (next_action core.job (left_by core) ≡ DoEnd how) ⊎ EndsSink (left_by core) how
+        by None e = inl (subst (λ (o : Option ℕ). next_action core.job (replay_with core.job core.journal o) ≡ DoEnd how) e ends)
         by (Some taken) e =
             let c = subst (Cuts core) e cuts in
-            inr (subst (EndsAlone core.job (left_by core)) (sym (sink-end taken e)) (c.1, c.0))
+            inr (subst (EndsSink (left_by core)) (sym (sink-end taken e)) (c.1, c.0))
+
+    -- it comes next or alone
+    pub end-may : (next_action core.job (left_by core) ≡ DoEnd how) ⊎ EndsAlone core.job (left_by core) how
+    end-may = elim end-comes [
+      | inl next ↦ inl next
+      | inr sink ↦ inr (sink_alone core.job (left_by core) how sink)
+    ]
 
     abbrev due_or : Option How → How
     due_or due = unwrap_or due Deadlock
 
     -- an end that the core comes to by itself is no sink's
-    own-end : EndsNow core.job (left_by core) how → (taken : ℕ) → how ≡ Sink taken → ⊥
-    own-end (inr stuck) taken e = let f : Deadlock ≡ Sink taken = sym stuck.0 ∙ e in cc
-    own-end (inl next) taken e = by (left_by core).due refl
+    own-end : next_action core.job (left_by core) ≡ DoEnd how → (taken : ℕ) → how ≡ Sink taken → ⊥
+    own-end next taken e = by (left_by core).due refl
       where
         by : (o : Option How) → (left_by core).due ≡ o → ⊥
         by None f = let g : Deadlock ≡ Sink taken = sym (ap due_or f) ∙ end_is core.job (left_by core) how next ∙ e in cc
@@ -126,7 +124,7 @@ module _ (core : CoreOf) (failed : Option ℕ) where
     end-sends = ap (λ (c : Core). c.output) (replay-more core.job core.journal (End how)) ∙ end-output core.job (left_by core) how ∙ by failed refl
       where
         by : (o : Option ℕ) → failed ≡ o → cut_output (left_by core) how ≡ sent_of core.job core.journal o
-        by None e = cut-none (own-end (subst (λ (o : Option ℕ). EndsNow core.job (replay_with core.job core.journal o) how) e ends))
+        by None e = cut-none (own-end (subst (λ (o : Option ℕ). next_action core.job (replay_with core.job core.journal o) ≡ DoEnd how) e ends))
         by (Some taken) e = ap (cut_output (left_by core)) (sink-end taken e)
 
 -- nothing leaves where nothing is written

@@ -11,7 +11,7 @@ ghost use Rattle.ro_legal.specs.Legal.{MayTake};
 ghost use Rattle.ro_legal.specs.Action.{next_action as next};
 ghost use Rattle.ro_legal.specs.Decides.{IsSplit};
 ghost use Rattle.ro_legal.specs.Rules.{IsFit, Legal, IsAllowed, IsNext, DecidesVote, DecidesFree, DecidesScrub, replay};
-ghost use Rattle.ro_core.specs.Seen.{EndsNow, Appends, IsOfMajority, Stays};
+ghost use Rattle.ro_core.specs.Seen.{Appends, IsOfMajority, Stays};
 ghost use Rattle.ro_cores.specs.Cores.{left_by, state, sent, Quiet, Sends, HasRoom, KeepsViews, with_sink};
 ghost use Rattle.ro_cores.specs.Loans.{IsLent, MayReturn, entry_of, lease_in};
 
@@ -174,9 +174,9 @@ impl<C: RunCore, K: Sink> Session<C, K> {
         self.core.scrub()
     }
 
-    /// Ends the run so, where this end is due or nothing can be done any more, be a scrub due or not.
+    /// Ends the run so, where this end comes next.
     pub fn end(&mut self, how: How)
-        requires { EndsNow self.old.job (state self.old) how }
+        requires { next self.old.job (state self.old) ≡ act.End how }
         ensures entry { IsAllowed self.old.job (replay self.old.job self.old.journal) (End how) × IsNext self.old.job (replay self.old.job self.old.journal) (End how) × Appends self.old self.new (End how) }
         ensures quiet { Quiet self.old self.new }
     {

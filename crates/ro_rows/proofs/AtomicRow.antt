@@ -10,9 +10,9 @@ use Rattle.ro_exec.specs.Meaning.{meaning}
 use Rattle.ro_exec.specs.Next.{fetch_stop, instruction_stop, next}
 use Rattle.ro_exec.specs.Threads.{first_cpu, made_cpu}
 use Rattle.ro_kernel.specs.Serve.{serve, payload_of}
-use Rattle.ro_journal.specs.declared.Did.TheVariants.{Served, PageBacked, Blocked as WasBlocked}
+use Rattle.ro_journal.specs.declared.Did.TheVariants.{Served}
 use Rattle.ro_journal.specs.declared.How.TheVariants.{Exit}
-use Rattle.ro_journal.specs.declared.Entry.TheVariants.{Vote, Free, End}
+use Rattle.ro_journal.specs.declared.Entry.TheVariants.{Vote, End}
 use Rattle.ro_vote.specs.Verdict.{verdict_of}
 use Rattle.ro_replica.specs.Replica.{opening_replica, applied, cancelled, recovered}
 use Rattle.ro_replica.specs.Runs.{struck, execute}

@@ -19,7 +19,7 @@ use Rattle.ro_journal.specs.declared.Lease.{Lease}
 use Rattle.ro_journal.specs.declared.Did.TheVariants.{Served, Blocked}
 use Rattle.ro_journal.specs.declared.How.{How}
 use Rattle.ro_journal.specs.declared.How.TheVariants.{Exit, Deadlock, Differ, NoMajority, Limit, Sink}
-use Rattle.ro_journal.specs.declared.Entry.TheVariants.{Take, Put, Vote, Free, End}
+use Rattle.ro_journal.specs.declared.Entry.TheVariants.{Take, Put, Vote, Free, End, Scrub}
 use Rattle.ro_journal.specs.Plan.{plan_of}
 use Rattle.ro_vote.specs.Verdict.{verdict_of}
 use Rattle.ro_replica.specs.Replica.{opening_replica, applied, cancelled, recovered}
@@ -29,7 +29,7 @@ use Rattle.ro_thread.specs.declared.Thread.{Thread}
 use Rattle.ro_plain.specs.Machine.{Machine, opening, steppable, step, AllEnd}
 use Rattle.ro_plain.proofs.Calls.{some-injective}
 use Rattle.ro_legal.specs.declared.actions.Action.TheVariants as act
-use Rattle.ro_legal.specs.Streaks.{streak_of}
+use Rattle.ro_legal.specs.Waits.{waited_of}
 use Rattle.ro_legal.specs.Core.{Job, Core, sharing_of, opening_core, may_free}
 use Rattle.ro_legal.specs.Event.{event_of}
 use Rattle.ro_legal.specs.Legal.{Legal, IsAllowed, may_scrub, HasArrived, arrival, EndsAlone, EndsVote, EndsFree, EndsScrub, MayEnd, after, replay, output_of, due, alone, for_vote, for_free, for_scrub}
@@ -41,7 +41,7 @@ use Rattle.ro_simulation.specs.Drives.{driven}
 use Rattle.ro_simulation.proofs.Checks.{test_legal, legal-by-test}
 use Rattle.ro_rows.specs.Exit.{exit_job}
 use Rattle.ro_rows.specs.Rows.{decisions, deadlock_job, deadlock_before, hello_job}
-use Rattle.ro_rows.specs.Edges.{small_job, waiters_job, two_wait, unlocked, letter_job, all_hits, is_vote, page_limit_job, before_free, exit_runs, until_free, scrubbing, one_runs, one_lent, both_stand, last_lent, parted_job, parted_runs, parted_pair, hello_written, watch_job, watch_journal, with_streak, votes_of}
+use Rattle.ro_rows.specs.Edges.{small_job, waiters_job, two_wait, unlocked, letter_job, all_hits, is_vote, page_limit_job, before_free, exit_runs, until_free, scrubbing, one_runs, one_lent, both_stand, last_lent, parted_job, parted_runs, parted_pair, hello_written, watch_job, watch_journal, with_waits, votes_of}
 
 -- a run that does not exist
 no-machine : {P : Type 0} (machine : Machine) (o : Option Machine) → o ≡ Some machine → o ≡ None → P
@@ -400,50 +400,84 @@ pub due-not-freed : next_action (scrubbing 1 letter_job) (replay letter_job (unt
 unfolding opening_core sharing_of opening_replica struck execute applied cancelled recovered verdict_of event_of after next_action first_cpu made_cpu next fetch_stop instruction_stop instruction_of call_at permits_of alu_of taken_by meaning serve payload_of
 due-not-freed = refl
 
--- ---- late_row
+-- ---- waits_row
 
-pub late-vote : next_action deadlock_job (with_streak 0 64 (replay deadlock_job both_stand)) ≡ act.Vote 1
+pub waits-vote : next_action deadlock_job (with_waits 0 64 (replay deadlock_job both_stand)) ≡ act.Vote 1
 unfolding opening_core sharing_of opening_replica struck execute applied cancelled recovered verdict_of event_of after next_action first_cpu made_cpu next fetch_stop instruction_stop instruction_of call_at permits_of alu_of taken_by meaning serve payload_of
-late-vote = refl
+waits-vote = refl
 
-pub late-early : next_action deadlock_job (with_streak 0 63 (replay deadlock_job both_stand)) ≡ act.Vote 0
+pub waits-early : next_action deadlock_job (with_waits 0 63 (replay deadlock_job both_stand)) ≡ act.Vote 0
 unfolding opening_core sharing_of opening_replica struck execute applied cancelled recovered verdict_of event_of after next_action first_cpu made_cpu next fetch_stop instruction_stop instruction_of call_at permits_of alu_of taken_by meaning serve payload_of
-late-early = refl
+waits-early = refl
 
-pub late-other : next_action deadlock_job (with_streak 1 64 (replay deadlock_job both_stand)) ≡ act.Vote 0
+pub waits-first : next_action deadlock_job (with_waits 64 0 (replay deadlock_job both_stand)) ≡ act.Vote 0
 unfolding opening_core sharing_of opening_replica struck execute applied cancelled recovered verdict_of event_of after next_action first_cpu made_cpu next fetch_stop instruction_stop instruction_of call_at permits_of alu_of taken_by meaning serve payload_of
-late-other = refl
+waits-first = refl
 
-pub late-lend : next_action deadlock_job (with_streak 0 64 (replay deadlock_job one_runs)) ≡ act.Lend 2 1
+pub waits-longer : next_action deadlock_job (with_waits 64 65 (replay deadlock_job both_stand)) ≡ act.Vote 1
 unfolding opening_core sharing_of opening_replica struck execute applied cancelled recovered verdict_of event_of after next_action first_cpu made_cpu next fetch_stop instruction_stop instruction_of call_at permits_of alu_of taken_by meaning serve payload_of
-late-lend = refl
+waits-longer = refl
 
-pub late-vote-first : next_action deadlock_job (with_streak 1 64 (replay deadlock_job one_runs)) ≡ act.Vote 0
+pub waits-shorter : next_action deadlock_job (with_waits 65 64 (replay deadlock_job both_stand)) ≡ act.Vote 0
 unfolding opening_core sharing_of opening_replica struck execute applied cancelled recovered verdict_of event_of after next_action first_cpu made_cpu next fetch_stop instruction_stop instruction_of call_at permits_of alu_of taken_by meaning serve payload_of
-late-vote-first = refl
+waits-shorter = refl
 
-pub late-alone : next_action exit_job (with_streak 0 64 (replay exit_job exit_runs)) ≡ act.Vote 0
+pub waits-lowest : next_action deadlock_job (with_waits 64 64 (replay deadlock_job both_stand)) ≡ act.Vote 0
 unfolding opening_core sharing_of opening_replica struck execute applied cancelled recovered verdict_of event_of after next_action first_cpu made_cpu next fetch_stop instruction_stop instruction_of call_at permits_of alu_of taken_by meaning serve payload_of
-late-alone = refl
+waits-lowest = refl
 
-pub late-alone-lent : next_action exit_job (with_streak 0 64 (opening_core exit_job)) ≡ act.Lend 0 0
+pub waits-lend : next_action deadlock_job (with_waits 0 64 (replay deadlock_job one_runs)) ≡ act.Lend 2 1
 unfolding opening_core sharing_of opening_replica struck execute applied cancelled recovered verdict_of event_of after next_action first_cpu made_cpu next fetch_stop instruction_stop instruction_of call_at permits_of alu_of taken_by meaning serve payload_of
-late-alone-lent = refl
+waits-lend = refl
 
-pub late-counted : streak_of (votes_of 0 63) ≡ record { thread = 0; votes = 63 }
-late-counted = refl
+pub waits-lend-early : next_action deadlock_job (with_waits 0 63 (replay deadlock_job one_runs)) ≡ act.Vote 0
+unfolding opening_core sharing_of opening_replica struck execute applied cancelled recovered verdict_of event_of after next_action first_cpu made_cpu next fetch_stop instruction_stop instruction_of call_at permits_of alu_of taken_by meaning serve payload_of
+waits-lend-early = refl
 
-pub late-no-more : streak_of (votes_of 0 65) ≡ record { thread = 0; votes = 64 }
-late-no-more = refl
+pub waits-vote-first : next_action deadlock_job (with_waits 64 0 (replay deadlock_job one_runs)) ≡ act.Vote 0
+unfolding opening_core sharing_of opening_replica struck execute applied cancelled recovered verdict_of event_of after next_action first_cpu made_cpu next fetch_stop instruction_stop instruction_of call_at permits_of alu_of taken_by meaning serve payload_of
+waits-vote-first = refl
 
-pub late-anew : streak_of (votes_of 0 64 ++ votes_of 1 2) ≡ record { thread = 1; votes = 2 }
-late-anew = refl
+pub waits-others : waited_of (votes_of 0 63) 1 ≡ 63
+waits-others = refl
 
-pub late-freed : streak_of (votes_of 0 64 ++ Free 1 ∷ []) ≡ record { thread = 1; votes = 0 }
-late-freed = refl
+pub waits-own : waited_of (votes_of 0 63) 0 ≡ 0
+waits-own = refl
 
-pub late-own : streak_of (votes_of 0 3 ++ Free 0 ∷ []) ≡ record { thread = 0; votes = 3 }
-late-own = refl
+pub waits-anew : waited_of (votes_of 0 64 ++ votes_of 1 2) 1 ≡ 0
+waits-anew = refl
+
+pub waits-since : waited_of (votes_of 0 64 ++ votes_of 1 2) 0 ≡ 2
+waits-since = refl
+
+pub waits-freed : waited_of (votes_of 0 64 ++ Free 1 ∷ []) 1 ≡ 0
+waits-freed = refl
+
+pub waits-other-freed : waited_of (votes_of 0 3 ++ Free 0 ∷ []) 1 ≡ 3
+waits-other-freed = refl
+
+-- ---- due_deadlock_row
+
+pub due-deadlock-scrub : next_action (scrubbing 1 deadlock_job) (replay deadlock_job deadlock_before) ≡ act.Scrub
+unfolding opening_core sharing_of opening_replica struck execute applied cancelled recovered verdict_of event_of after next_action first_cpu made_cpu next fetch_stop instruction_stop instruction_of call_at permits_of alu_of taken_by meaning serve payload_of
+due-deadlock-scrub = refl
+
+pub due-deadlock-behind : next_action (scrubbing 1 deadlock_job) (after (scrubbing 1 deadlock_job) (replay deadlock_job deadlock_before) (Scrub 0 Nobody)) ≡ act.End Deadlock
+unfolding opening_core sharing_of opening_replica struck execute applied cancelled recovered verdict_of event_of after next_action first_cpu made_cpu next fetch_stop instruction_stop instruction_of call_at permits_of alu_of taken_by meaning serve payload_of
+due-deadlock-behind = refl
+
+pub due-deadlock-allowed : IsAllowed (scrubbing 1 deadlock_job) (replay deadlock_job deadlock_before) (End Deadlock)
+unfolding opening_core sharing_of opening_replica struck execute applied cancelled recovered verdict_of event_of after next_action first_cpu made_cpu next fetch_stop instruction_stop instruction_of call_at permits_of alu_of taken_by meaning serve payload_of
+due-deadlock-allowed = (refl, alone refl)
+
+pub due-deadlock-not-next : IsNext (scrubbing 1 deadlock_job) (replay deadlock_job deadlock_before) (End Deadlock) → ⊥
+due-deadlock-not-next e = elim e [
+  | inl next ↦ (let f : act.Scrub ≡ act.End Deadlock = sym due-deadlock-scrub ∙ next in cc)
+  | inr (inl sink) ↦ sink
+  | inr (inr (inl vote)) ↦ vote.2
+  | inr (inr (inr (inl free))) ↦ free.2
+  | inr (inr (inr (inr scrub))) ↦ scrub.1
+]
 
 -- ---- snapshot_row
 

@@ -1,5 +1,5 @@
 -- Leases that have a few pages of their replica, by computation.
-use Rattle.std.specs.Prelude.{◌≡◌, ◌+◌, IsSome, Bool, true, false, [], ◌∷◌, ◌++◌, Option, Some, None, is_none}
+use Rattle.std.specs.Prelude.{◌≡◌, IsSome, Bool, true, false, [], ◌∷◌, ◌++◌, Option, Some, None, is_none}
 use Rattle.std.specs.Option.{option_map}
 use Rattle.std.proofs.Common.{refl, sym, ap, ◌∙◌, inl, inr, arith}
 use Rattle.std.proofs.lemmas.Bool.{true≢false}

@@ -4,16 +4,16 @@ ghost use Rattle.std.specs.List.{filter};
 ghost use Rattle.ro_journal.specs.Leases.{lease_to};
 ghost use Rattle.ro_journal.specs.declared.Did.TheVariants.{Served, Blocked};
 ghost use Rattle.ro_journal.specs.declared.How.TheVariants.{Exit, Deadlock, Differ, NoMajority, Limit, Sink};
-ghost use Rattle.ro_journal.specs.declared.Entry.TheVariants.{Take, Put, Vote, Free, End};
+ghost use Rattle.ro_journal.specs.declared.Entry.TheVariants.{Take, Put, Vote, Free, Scrub, End};
 ghost use Rattle.ro_journal.specs.declared.losers.Lost.TheVariants.{Nobody, One};
 ghost use Rattle.ro_journal.specs.Plan.{plan_of};
 ghost use Rattle.ro_thread.specs.declared.Thread.{Thread};
 ghost use Rattle.ro_replica.specs.Snapshots.{thread_snapshot};
 ghost use Rattle.ro_plain.specs.Machine.{AllEnd};
 ghost use Rattle.ro_legal.specs.declared.actions.Action.TheVariants as act;
-ghost use Rattle.ro_legal.specs.Streaks.{streak_of};
+ghost use Rattle.ro_legal.specs.Waits.{waited_of};
 ghost use Rattle.ro_legal.specs.Core.{opening_core, may_free};
-ghost use Rattle.ro_legal.specs.Legal.{Legal, IsAllowed, may_scrub, replay, output_of};
+ghost use Rattle.ro_legal.specs.Legal.{Legal, IsAllowed, may_scrub, after, replay, output_of};
 ghost use Rattle.ro_legal.specs.Action.{next_action, IsNext};
 ghost use Rattle.ro_simulation.specs.Theorem.{CannotDiffer};
 ghost use Rattle.ro_simulation.specs.Guests.{exit_guest};
@@ -21,7 +21,7 @@ ghost use Rattle.ro_simulation.specs.Rows.{flip_a0};
 ghost use Rattle.ro_simulation.specs.Drives.{driven};
 ghost use Rattle.ro_rows.specs.Exit.{exit_job};
 ghost use Rattle.ro_rows.specs.Rows.{decisions, deadlock_job, deadlock_before, hello_job};
-ghost use Rattle.ro_rows.specs.Edges.{small_job, waiters_job, two_wait, unlocked, letter_job, all_hits, is_vote, page_limit_job, before_free, exit_runs, until_free, scrubbing, one_runs, one_lent, both_stand, last_lent, parted_job, parted_runs, parted_pair, hello_written, watch_job, watch_journal, with_streak, votes_of};
+ghost use Rattle.ro_rows.specs.Edges.{small_job, waiters_job, two_wait, unlocked, letter_job, all_hits, is_vote, page_limit_job, before_free, exit_runs, until_free, scrubbing, one_runs, one_lent, both_stand, last_lent, parted_job, parted_runs, parted_pair, hello_written, watch_job, watch_journal, with_waits, votes_of};
 
 /// A row: no execution of the guest that exits with 7 has more than three steps, and one has more than two.
 pub fn length_row()
@@ -157,21 +157,35 @@ pub fn due_row()
     ensures not_freed { next_action (scrubbing 1 letter_job) (replay letter_job (until_free (driven 200 letter_job))) ≡ act.Scrub }
 {}
 
-/// A row: a thread that had 64 votes in a row comes behind all others, with its votes and its leases, and not one vote sooner; where
-/// it is alone nothing changes. Another thread's vote begins anew at 1, its free at 0; a free of its own changes nothing.
-pub fn late_row()
-    ensures vote { next_action deadlock_job (with_streak 0 64 (replay deadlock_job both_stand)) ≡ act.Vote 1 }
-    ensures early { next_action deadlock_job (with_streak 0 63 (replay deadlock_job both_stand)) ≡ act.Vote 0 }
-    ensures other { next_action deadlock_job (with_streak 1 64 (replay deadlock_job both_stand)) ≡ act.Vote 0 }
-    ensures lend { next_action deadlock_job (with_streak 0 64 (replay deadlock_job one_runs)) ≡ act.Lend 2 1 }
-    ensures vote_first { next_action deadlock_job (with_streak 1 64 (replay deadlock_job one_runs)) ≡ act.Vote 0 }
-    ensures alone { next_action exit_job (with_streak 0 64 (replay exit_job exit_runs)) ≡ act.Vote 0 }
-    ensures alone_lent { next_action exit_job (with_streak 0 64 (opening_core exit_job)) ≡ act.Lend 0 0 }
-    ensures counted { streak_of (votes_of 0 63) ≡ record { thread = 0; votes = 63 } }
-    ensures no_more { streak_of (votes_of 0 65) ≡ record { thread = 0; votes = 64 } }
-    ensures anew { streak_of (votes_of 0 64 ++ votes_of 1 2) ≡ record { thread = 1; votes = 2 } }
-    ensures freed { streak_of (votes_of 0 64 ++ Free 1 ∷ []) ≡ record { thread = 1; votes = 0 } }
-    ensures own { streak_of (votes_of 0 3 ++ Free 0 ∷ []) ≡ record { thread = 0; votes = 3 } }
+/// A row: a thread that has waited for 64 votes of others comes first, with its vote and its leases, and not one vote sooner. Of two
+/// it is the one that has waited longer, and the lowest of those that have waited as long. Another thread's vote is one more, its free
+/// is none, and a vote or a free of its own begins anew.
+pub fn waits_row()
+    ensures vote { next_action deadlock_job (with_waits 0 64 (replay deadlock_job both_stand)) ≡ act.Vote 1 }
+    ensures early { next_action deadlock_job (with_waits 0 63 (replay deadlock_job both_stand)) ≡ act.Vote 0 }
+    ensures first { next_action deadlock_job (with_waits 64 0 (replay deadlock_job both_stand)) ≡ act.Vote 0 }
+    ensures longer { next_action deadlock_job (with_waits 64 65 (replay deadlock_job both_stand)) ≡ act.Vote 1 }
+    ensures shorter { next_action deadlock_job (with_waits 65 64 (replay deadlock_job both_stand)) ≡ act.Vote 0 }
+    ensures lowest { next_action deadlock_job (with_waits 64 64 (replay deadlock_job both_stand)) ≡ act.Vote 0 }
+    ensures lend { next_action deadlock_job (with_waits 0 64 (replay deadlock_job one_runs)) ≡ act.Lend 2 1 }
+    ensures lend_early { next_action deadlock_job (with_waits 0 63 (replay deadlock_job one_runs)) ≡ act.Vote 0 }
+    ensures vote_first { next_action deadlock_job (with_waits 64 0 (replay deadlock_job one_runs)) ≡ act.Vote 0 }
+    ensures others { waited_of (votes_of 0 63) 1 ≡ 63 }
+    ensures own { waited_of (votes_of 0 63) 0 ≡ 0 }
+    ensures anew { waited_of (votes_of 0 64 ++ votes_of 1 2) 1 ≡ 0 }
+    ensures since { waited_of (votes_of 0 64 ++ votes_of 1 2) 0 ≡ 2 }
+    ensures freed { waited_of (votes_of 0 64 ++ Free 1 ∷ []) 1 ≡ 0 }
+    ensures other_freed { waited_of (votes_of 0 3 ++ Free 0 ∷ []) 1 ≡ 3 }
+{}
+
+/// A row: where nothing can be done any more and a scrub is due, the scrub comes next, and the deadlock doesn't, though a journal may
+/// end so; behind the scrub the deadlock does.
+pub fn due_deadlock_row()
+    ensures scrub { next_action (scrubbing 1 deadlock_job) (replay deadlock_job deadlock_before) ≡ act.Scrub }
+    ensures not_next { IsNext (scrubbing 1 deadlock_job) (replay deadlock_job deadlock_before) (End Deadlock) → ⊥ }
+    ensures allowed { IsAllowed (scrubbing 1 deadlock_job) (replay deadlock_job deadlock_before) (End Deadlock) }
+    ensures behind { next_action (scrubbing 1 deadlock_job) (after (scrubbing 1 deadlock_job) (replay deadlock_job deadlock_before) (Scrub 0 Nobody)) ≡ act.End Deadlock }
+    ensures next { IsNext (scrubbing 1 deadlock_job) (after (scrubbing 1 deadlock_job) (replay deadlock_job deadlock_before) (Scrub 0 Nobody)) (End Deadlock) }
 {}
 
 /// A row: of a thread that has exited a scrub compares its count alone, of a live one registers, pc and stop too.

@@ -30,8 +30,9 @@ ghost use Rattle.ro_rows.specs.Guests.{loop_guest};
 ghost use Rattle.ro_rows.specs.Rows.{five_job, IdealEnds, decisions, page_job, atomic_job, waiting_job, lost_job, lost_journal, deadlock_job, deadlock_journal, pair_job, pair_journal, single_job, watched_job, hello_job, failing_journal, healed_job, hidden_job, before_vote};
 
 pub use edges::{
-    differ_row, due_row, free_first_row, late_row, length_row, limit_row, parted_row, put_row,
-    sink_row, snapshot_row, stuck_row, take_row, vote_row, waiters_row, watch_row,
+    differ_row, due_deadlock_row, due_row, free_first_row, length_row, limit_row, parted_row,
+    put_row, sink_row, snapshot_row, stuck_row, take_row, vote_row, waiters_row, waits_row,
+    watch_row,
 };
 pub use lending::{lend_row, nine_row, part_row, shared_row};
 pub use order::{

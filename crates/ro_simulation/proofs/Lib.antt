@@ -30,3 +30,11 @@ pub mod Limits
 pub mod LockingGuest
 pub mod Repeats
 pub mod Parted
+pub mod Upsets
+pub mod Corruptions
+pub mod Listed
+pub mod Voted
+pub mod CorruptedBetween
+pub mod Completes
+pub mod RowsCorrupted
+pub mod RowsCorruptedTwo

@@ -25,7 +25,7 @@ use Rattle.ro_simulation.proofs.Simulates.{simulates, stage, apart-policy}
 use Rattle.ro_simulation.proofs.Laws.{never-differs}
 
 -- no program ends by a difference
-no-over-differ : IsOver Differ → ⊥
+pub no-over-differ : IsOver Differ → ⊥
 no-over-differ h = elim h [ ]
 
 -- no program ends by a limit
@@ -34,7 +34,7 @@ no-over-limit steps next h = elim h [ ]
 
 module _ (job : Job) (free : RaceFree job.program) (odds : List ℕ) (journal : List Entry) (core : Core) (h : TracksIdeal job odds journal core) where
   -- an end by a limit in a core that the invariant holds of
-  passed : (steps next : ℕ) → MayEnd job core (Limit steps next) → PassedLimit job journal steps next
+  pub passed : (steps next : ℕ) → MayEnd job core (Limit steps next) → PassedLimit job journal steps next
   passed steps next (due e) = absurd (no-over-limit steps next (h.ends_well (Limit steps next) (sym h.same_end ∙ e)))
   passed steps next (alone e) = absurd e
   passed steps next (for_vote t may e) = record {

@@ -52,7 +52,7 @@ pub no-run : (machine : Machine) (o : Option Machine) → o ≡ Some machine →
 no-run machine o e f = absurd (let g : None ≡ Some machine = sym f ∙ e in cc)
 
 -- no execution of the guest makes a thread
-exit-alone : StaysAlone exit_guest
+pub exit-alone : StaysAlone exit_guest
 unfolding opening first_cpu steppable step next fetch_stop instruction_stop instruction_of call_at permits_of alu_of meaning serve payload_of
 exit-alone [] machine e = one-life machine _ e refl
 exit-alone (zero ∷ []) machine e = one-life machine _ e refl

@@ -7,3 +7,5 @@ pub mod Weaker
 pub mod Scrubbed
 pub mod Repeated
 pub mod AtMostOne
+pub mod Corruptions
+pub mod Corrupted

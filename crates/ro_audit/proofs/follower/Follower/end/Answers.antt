@@ -15,10 +15,10 @@ returns-then-ends_now-clause-followed g c =
     let x = c.end.ensures in
     let new = g.C.RunCore.seen c.end.new.self in
     let rows = g.C.AuditCore.got_of c.args.self.now.got in (
-      x.allowed.0,
+      x.allowed,
       x.appends,
       subst (Follows new c.args.self.now.lent.items rows) (sym c.truncate.ensures.items)
-          (end-follows (g.C.RunCore.seen c.args.self.now.core) new c.args.how c.args.self.now.lent.items rows c.args.self.now.output.items c.bytes.result c.requires.follows x.allowed.0 x.appends c.bytes.ensures),
+          (end-follows (g.C.RunCore.seen c.args.self.now.core) new c.args.how c.args.self.now.lent.items rows c.args.self.now.output.items c.bytes.result c.requires.follows x.allowed x.appends c.bytes.ensures),
     )
 
 pub scrub-requires-clause-decides : goal.scrub-requires-clause-decides

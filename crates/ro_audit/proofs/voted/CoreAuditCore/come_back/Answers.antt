@@ -1,4 +1,4 @@
-use Rattle.std.proofs.Common.{◌≡◌, true≢false, sym, ◌∙◌, subst}
+use Rattle.std.proofs.Common.{true≢false, sym, ◌∙◌, subst}
 use Rattle.ro_journal.specs.declared.Entry.{Entry}
 use Rattle.ro_core.specs.Runs.{fields_of, job_of}
 use Rattle.ro_cores.specs.Loans.{Returns}

@@ -1,7 +1,8 @@
 use Rattle.std.proofs.Common.{◌≡◌, None}
-use Rattle.ro_legal.specs.Action.{lowest_below, may_lend_in}
+use Rattle.ro_legal.specs.Core.{is_lendable}
+use Rattle.ro_legal.specs.Action.{lowest_below}
 use Rattle.ro_coop_core.specs.Runs.{state_of}
 use Rattle.ro_coop_core.proofs.cores.Core.lowest_lendable.Given as goal
 
 abbrev pub invariant-loop-thread : goal.invariant-loop-thread
-invariant-loop-thread l = lowest_below l.thread (may_lend_in (state_of l.self) l.last l.replica) ≡ None
+invariant-loop-thread l = lowest_below l.thread (is_lendable (state_of l.self) l.replica) ≡ None

@@ -1,6 +1,6 @@
 use Rattle.std.proofs.Common.{◌<◌, sym, arith}
-use Rattle.std.proofs.lemmas.Bool.{and_from}
-use Rattle.ro_legal.specs.Action.{may_vote_in, threads_made}
+use Rattle.ro_legal.specs.Core.{may_vote}
+use Rattle.ro_legal.specs.Action.{threads_made}
 use Rattle.ro_legal.proofs.Lowest.{lowest-found}
 use Rattle.ro_coop_core.specs.Runs.{fields_of, state_of}
 use Rattle.ro_coop_core.proofs.Tests.{made-is}
@@ -9,4 +9,4 @@ use Rattle.ro_coop_core.proofs.cores.Core.lowest_to_vote.Goals as goal
 pub returns-then-may_vote : goal.returns-then-may_vote
 returns-then-may_vote c =
     let less : c.loop-thread.thread < threads_made (state_of c.args.self.now) = omega (arith, made-is (fields_of c.args.self.now) c.requires.holds, c.made-thread-end.ensures.made, c.loop-thread-test.true) in
-    sym (lowest-found (may_vote_in (state_of c.args.self.now) c.args.last) c.loop-thread.thread (threads_made (state_of c.args.self.now)) less c.loop-thread.invariant (and_from _ _ (sym c.if-is_turn.ensures) (sym c.if-may_vote.ensures)))
+    sym (lowest-found (may_vote (state_of c.args.self.now)) c.loop-thread.thread (threads_made (state_of c.args.self.now)) less c.loop-thread.invariant (sym c.if-may_vote.ensures))

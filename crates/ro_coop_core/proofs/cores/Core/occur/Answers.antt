@@ -6,7 +6,7 @@ use Rattle.ro_coop_core.specs.declared.seats.Seat.{Seat}
 use Rattle.ro_coop_core.specs.declared.seats.Entering.{Entering}
 use Rattle.ro_coop_core.specs.Seats.{AllCanTake, AreHome, entered_of}
 use Rattle.ro_coop_core.specs.Runs.{job_of, state_of}
-use Rattle.ro_coop_core.proofs.Behind.{occurs-job, occurs-few, occurs-given, occurs-can, occurs-ranked, occurs-home, occurs-many, occurs-steps, occurs-short, occurs-sent, occurs-places, occurs-holds, occurs-wrote}
+use Rattle.ro_coop_core.proofs.Behind.{occurs-job, occurs-few, occurs-given, occurs-can, occurs-ranked, occurs-home, occurs-many, occurs-steps, occurs-short, occurs-sent, occurs-places, occurs-votes, occurs-holds, occurs-wrote}
 use Rattle.ro_coop_core.proofs.cores.Core.occur.Goals as goal
 
 pub bounds-self-thread : goal.bounds-self-thread
@@ -14,6 +14,12 @@ bounds-self-thread c = occurs-few _ _ c.requires.can
 
 pub bounds-self-thread-2 : goal.bounds-self-thread-2
 bounds-self-thread-2 c = occurs-few _ _ c.requires.can
+
+pub note-requires-clause-few : goal.note-requires-clause-few
+note-requires-clause-few c = let votes = occurs-votes _ _ c.requires.can in let room = occurs-places _ _ c.requires.can in omega arith
+
+pub note-requires-clause-thread : goal.note-requires-clause-thread
+note-requires-clause-thread c = occurs-few _ _ c.requires.can
 
 pub occur_in_all-requires : goal.occur_in_all-requires
 occur_in_all-requires c =
@@ -44,7 +50,7 @@ returns-clause-holds c =
     let new = subst (λ (e : Option Entering). AreHome job after (replicas_after effect (entered_of e) core.replicas core.sides) (map (side_served thread (entered_of e)) core.sides) c.occur_in_all.new.seats) c.entering-entering.ensures (c.occur_in_all.ensures job core.kernel after core.replicas core.sides (occurs-given _ _ can) (occurs-ranked _ _ can) old) in
     let items = with_items_is c.args.self.now.seats c.occur_in_all.new.seats (occurs-many _ _ can c.occur_in_all.new.seats new ∙ ap length (sym c.as_mut_slice.ensures.value) ∙ c.as_mut_slice.ensures.len) in
     occurs-holds _ _ can _ (occurs-job _ _ can) (c.push_reserved.ensures.items ∙ ap (λ (x : Run). x.journal.items ++ c.args.noted.now.entry ∷ []) can.is) refl
-    (subst (AreHome job after _ _) (sym items) new) refl refl refl refl refl refl c.after_event-streak.ensures refl refl (ap (λ xs. c.args.self.now.sent + length xs) c.payload-written.ensures) (ap (λ xs. length xs) c.payload-written.ensures)
+    (subst (AreHome job after _ _) (sym items) new) refl refl refl refl refl refl (record { waits = c.note.ensures.waits; since = c.note.ensures.since; least = c.note.ensures.votes.0; most = c.note.ensures.votes.1 }) refl refl (ap (λ xs. c.args.self.now.sent + length xs) c.payload-written.ensures) (ap (λ xs. length xs) c.payload-written.ensures)
     (let room = occurs-places _ _ can in omega (arith, room, c.push_reserved.ensures.len, c.push_reserved.ensures.capacity))
 
 pub returns-clause-wrote : goal.returns-clause-wrote

@@ -71,7 +71,7 @@ returns-clause-holds c =
     let parking = c.parking_at-parking.ensures ∙ ap (λ ms. parking_at ms c.args.came) c.mutexes.ensures in
     let entry = entry-by lease c.args.count c.args.partner.peer.mutexes c.args.came c.requires.returns.within c.parking_at-parking.result parking c.return_of.result c.return_of.ensures.elsewhere c.return_of.ensures.waits in
     put-holds f h lease c.args.partner c.args.count c.args.came r _ c.index_mut.result.now c.come_home-done.new.self c.come_home-done.result there
-    (record { job = refl; kernel = refl; cooperates = refl; blocked = refl; streak = refl; sent = refl; due = refl; ended = refl; views = refl }) refl
+    (record { job = refl; kernel = refl; cooperates = refl; blocked = refl; waits = refl; sent = refl; due = refl; ended = refl; views = refl }) refl
     (c.push_reserved.ensures.items ∙ ap (λ e. f.journal ++ e ∷ []) entry)
     c.forget_lease.ensures.items refl c.come_home-done.ensures.result c.note_done.ensures.steps
     (ap (slice_set f.most_done lease.thread) c.note_done.ensures.most)

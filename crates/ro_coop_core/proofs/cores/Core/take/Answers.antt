@@ -39,7 +39,7 @@ returns-clause-holds c =
     let same = ap length h.leases_are in
     let there = read-seat f.seats c.args.lease.replica c.index_mut.result.now (take-within f h c.args.lease c.requires.allowed) c.index_mut.ensures.value in
     take-holds f h c.args.lease c.requires.allowed _ c.index_mut.result.now there
-    (record { job = refl; kernel = refl; cooperates = refl; blocked = refl; streak = refl; sent = refl; due = refl; ended = refl; views = refl }) refl refl refl
+    (record { job = refl; kernel = refl; cooperates = refl; blocked = refl; waits = refl; sent = refl; due = refl; ended = refl; views = refl }) refl refl refl
     c.push_reserved.ensures.items c.note_lease.ensures.items
     (ap (slice_set f.seats c.args.lease.replica) c.leave-partner.ensures.seat)
     (omega (arith, parts.0, same, c.push_reserved.ensures.len, c.push_reserved.ensures.capacity))

@@ -9,7 +9,7 @@ returns-in-Ok-clause-holds c =
     let o = c.in-Ok.ensures in
     opening-holds _ c.requires.settings o.journal (subst (λ fs. AreFirst c.args.image fs c.args.settings.watchdog c.in-Ok.opening.seats.homes.items) (sym o.faults) o.first) o.count c.new-in-Ok.ensures.items
     (record { lent = o.lent; lent_count = λ lends. o.lent_count _ refl lends; wishes = o.wishes; wish_count = λ lends. o.wish_count _ refl lends; lanes = c.new-in-Ok-2.ensures.items })
-    (o.setup ∙ ap (λ (s : Setup). record { ranges = c.args.image.ranges; heap = c.args.image.heap; input = s.input }) (sym o.setup)) o.kernel refl refl refl refl refl c.new-in-Ok-3.ensures refl refl refl refl o.views o.none o.room
+    (o.setup ∙ ap (λ (s : Setup). record { ranges = c.args.image.ranges; heap = c.args.image.heap; input = s.input }) (sym o.setup)) o.kernel refl refl refl refl refl (c.new-in-Ok-3.ensures.waits, c.new-in-Ok-3.ensures.votes) refl refl refl refl o.views o.none o.room
 
 pub returns-in-Ok-clause-opens : goal.returns-in-Ok-clause-opens
 returns-in-Ok-clause-opens c =

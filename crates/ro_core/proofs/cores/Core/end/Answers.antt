@@ -1,6 +1,6 @@
 use Rattle.std.proofs.Common.{refl, arith}
 use Rattle.ro_core.specs.Runs.{fields_of}
-use Rattle.ro_core.proofs.Ends.{end-not-over, end-allowed, end-took, end-room, end-counts, end-holds}
+use Rattle.ro_core.proofs.Ends.{end-not-over, end-allowed, end-took, end-room, end-counts, end-holds, comes-next}
 use Rattle.ro_core.proofs.cores.Core.end.Goals as goal
 
 pub sent_behind-self-requires : goal.sent_behind-self-requires
@@ -19,5 +19,7 @@ returns-clause-holds c =
 pub returns-clause-allowed : goal.returns-clause-allowed
 returns-clause-allowed c =
     let f = fields_of c.args.self.now in
-    let allowed = end-allowed f c.requires.holds c.args.how c.requires.now in
-    ((end-not-over f c.requires.holds c.args.how c.requires.now, allowed.0), allowed.1)
+    (end-not-over f c.requires.holds c.args.how c.requires.now, end-allowed f c.requires.holds c.args.how c.requires.now)
+
+pub returns-clause-next : goal.returns-clause-next
+returns-clause-next c = comes-next _ _ c.args.how

@@ -50,7 +50,7 @@ returns-clause-holds c =
     let lends = subst (λ (pages : List ℕ). LendsPages lease.thread pages home.0 after.0 c.lend_pages.new.lane) c.as_slice.ensures.value after.2 in
     let drivers = (h.noted.1 c.requires.lends).1 in
     let own = c.note_lent.ensures.noted (omega (arith, c.requires.allowed.driver_exists, drivers, ap length c.as_mut_slice.ensures.value)) in
-    take-holds f h lease c.requires.allowed _ (record { job = refl; kernel = refl; blocked = refl; unblocked = refl; others_sleep = refl; steps = refl; scrubbed = refl; streak = refl; sent = refl; due = refl; ended = refl; views = refl }) refl
+    take-holds f h lease c.requires.allowed _ (record { job = refl; kernel = refl; blocked = refl; unblocked = refl; calm = refl; steps = refl; scrubbed = refl; waits = refl; sent = refl; due = refl; ended = refl; views = refl }) refl
     c.push_reserved.ensures.items c.note_lease.ensures.items
     (take-noted f h lease c.requires.allowed _ (ap length items ∙ c.note_lent.ensures.count ∙ ap length c.as_mut_slice.ensures.value)
     (λ other apart. ap (λ (xs : List (Option (ArrayVec ℕ))). lent_at xs other) items ∙ c.note_lent.ensures.others other apart ∙ ap (λ (xs : List (Option (ArrayVec ℕ))). lent_at xs other) c.as_mut_slice.ensures.value)

@@ -25,7 +25,7 @@ returns-clause-holds c =
     let parts = spare_parts _ f.places f.lease_places _ c.requires.room in
     let same = ap length h.leases_are in
     let items = with_items_is c.args.self.now.lent c.note_whole.new.lent (c.note_whole.ensures.count ∙ c.as_mut_slice.ensures.len) in
-    take-holds f h lease c.requires.allowed _ (record { job = refl; kernel = refl; blocked = refl; unblocked = refl; others_sleep = refl; steps = refl; scrubbed = refl; streak = refl; sent = refl; due = refl; ended = refl; views = refl }) refl
+    take-holds f h lease c.requires.allowed _ (record { job = refl; kernel = refl; blocked = refl; unblocked = refl; calm = refl; steps = refl; scrubbed = refl; waits = refl; sent = refl; due = refl; ended = refl; views = refl }) refl
     c.push_reserved.ensures.items c.note_lease.ensures.items
     (take-noted f h lease c.requires.allowed _ (ap length items ∙ c.note_whole.ensures.count ∙ ap length c.as_mut_slice.ensures.value)
     (λ other apart. ap (λ (xs : List (Option (ArrayVec ℕ))). lent_at xs other) items ∙ c.note_whole.ensures.others other apart ∙ ap (λ (xs : List (Option (ArrayVec ℕ))). lent_at xs other) c.as_mut_slice.ensures.value)

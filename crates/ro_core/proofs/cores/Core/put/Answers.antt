@@ -74,7 +74,7 @@ returns-in-Whole-clause-holds c =
     (subst (λ (ws : List Wish). NotesFault c.place_of.result (stop_in back.lease.thread back.loan) c.match-matches.matches s.wishes.items ws) (sym wishes)
     (subst (λ (ws : List Wish). NotesFault c.place_of.result (stop_in back.lease.thread back.loan) c.match-matches.matches ws c.note_fault.new.wishes) c.as_mut_slice.ensures.value c.note_fault.ensures))) in
     let room = put-room f h (silent s) back refl refl may in
-    put-holds f h (silent s) back refl refl may _ c.in-Whole.replica true (record { job = refl; kernel = refl; blocked = refl; unblocked = refl; others_sleep = refl; steps = refl; scrubbed = refl; streak = refl; sent = refl; due = refl; ended = refl; views = refl }) refl
+    put-holds f h (silent s) back refl refl may _ c.in-Whole.replica true (record { job = refl; kernel = refl; blocked = refl; unblocked = refl; calm = refl; steps = refl; scrubbed = refl; waits = refl; sent = refl; due = refl; ended = refl; views = refl }) refl
     (c.push_reserved.ensures.items ∙ ap (λ (e : Entry). f.journal ++ e ∷ []) c.return_of-entry.ensures) c.forget_lease.ensures.items
     (put-noted f h (silent s) back refl refl may _ noted) h.lanes_are
     (subst (AreSeated f.job (after f.job (core_in f) (return_of (core_in f) back))) (sym c.come_home.ensures.homes) (whole-seated f h (silent s) back refl refl may c.in-Whole.replica brings))
@@ -118,7 +118,7 @@ returns-after-missed-clause-holds c =
     ap is_some (stop ∙ sym (part-stop f h (silent s) back refl refl may lane brings (stop_behind (state_of s) back))) in
     let spare = part-spare f h (silent s) back refl refl may lane brings in
     subst Holds (sym c.take_back.ensures.rest)
-    (put-holds f h (silent s) back refl refl may _ home.0 true (record { job = refl; kernel = refl; blocked = refl; unblocked = refl; others_sleep = refl; steps = refl; scrubbed = refl; streak = refl; sent = refl; due = refl; ended = refl; views = refl }) refl
+    (put-holds f h (silent s) back refl refl may _ home.0 true (record { job = refl; kernel = refl; blocked = refl; unblocked = refl; calm = refl; steps = refl; scrubbed = refl; waits = refl; sent = refl; due = refl; ended = refl; views = refl }) refl
     (c.push_reserved.ensures.items ∙ ap (λ (e : Entry). f.journal ++ e ∷ []) c.return_of-entry.ensures) c.forget_lease.ensures.items
     (put-noted f h (silent s) back refl refl may _ noted) (c.take_back.ensures.lanes f.job.program.image spare.0 spare.1 h.lanes_are)
     (subst (AreSeated f.job (after f.job (core_in f) (return_of (core_in f) back))) (sym put.1) (part-seated f h (silent s) back refl refl may lane brings home.0 put.0 home.1 takes))

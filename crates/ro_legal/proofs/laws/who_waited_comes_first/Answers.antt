@@ -1,0 +1,8 @@
+use Rattle.ro_legal.proofs.Nexts.{outwaited_voted, outwaited_lent}
+use Rattle.ro_legal.proofs.laws.who_waited_comes_first.Goals as goal
+
+pub returns-clause-vote : goal.returns-clause-vote
+returns-clause-vote c = outwaited_voted
+
+pub returns-clause-lend : goal.returns-clause-lend
+returns-clause-lend c = outwaited_lent

@@ -13,7 +13,7 @@ loser that wasn't struck. This is sound for programs whose output and status don
 and that have no data races; where runs without faults show that they do or have, there is no campaign. Where faults in two
 replicas met, nothing is promised and nothing is wrong; what is promised holds too where strikes hit at most half of the
 replicas from each scrub to the next. Status 1 where anything differs; the faults are printed then. Status 130 after an
-interrupt (Ctrl-C): what was done so far is told, and stays in the rows. docs/FAULTS.md has the rest.
+interrupt (Ctrl-C, or SIGTERM): what was done so far is told, and stays in the rows. docs/FAULTS.md has the rest.
 """
 import argparse
 import collections
@@ -23,11 +23,14 @@ import importlib.util
 import itertools
 import os
 import pathlib
+import signal
 import sqlite3
 import subprocess
 import sys
+import time
 
-from campaigns import drawing, judging, points, programs, rows, running, telling
+import places
+from campaigns import again, comparing, drawing, judging, points, programs, rows, running, telling
 
 ROOT = programs.ROOT
 REPLICAS = [2, 3, 5]
@@ -56,8 +59,31 @@ def kinds(text):
     return [kind for kind in drawing.KINDS if kind in chosen]
 
 
+def replicas(text):
+    chosen = numbers(text)
+    if not set(chosen) <= set(REPLICAS):
+        raise argparse.ArgumentTypeError(f"there are {', '.join(map(str, REPLICAS))}")
+    return chosen
+
+
 def request(text):
     return programs.Request(pathlib.Path(text).name, pathlib.Path(text))
+
+
+def add_what_is_told(parser):
+    told = parser.add_argument_group("what is told")
+    told.add_argument("--rows", metavar="FILE", help="rows of SQLite, a run each; what is there isn't run again")
+    told.add_argument("--csv", metavar="FILE", help="all rows as CSV")
+    told.add_argument("--table", type=pathlib.Path, metavar="FILE", help="tables of all rows (standard output)")
+    told.add_argument("--compare", type=pathlib.Path, metavar="FILE",
+                      help="one table of all campaigns of the rows beside each other, by the literature's names")
+    told.add_argument("--again", type=int, metavar="N",
+                      help="makes run N of one campaign once more, and nothing else: its faults, journal, audit and picture")
+    told.add_argument("--plot", metavar="FILE", help="picture of the fates; this and the next by matplotlib")
+    told.add_argument("--latencies", metavar="FILE", help="picture of the latencies")
+    told.add_argument("--points", metavar="NAME", help="the share of runs that end wrong by faults a run and by scrubs, of "
+                      f"{' and '.join(drawing.MANY)}: NAME.md and NAME.csv")
+    told.add_argument("--points-plot", metavar="FILE", help="picture of these shares, by matplotlib")
 
 
 def read_arguments():
@@ -83,7 +109,8 @@ def read_arguments():
     faults.add_argument("--scrub", type=numbers, default=[0], metavar="N,..",
                         help="of the runs, 0 for never; of several numbers each is run, with the same faults (0)")
     faults.add_argument("--width", type=int, default=4, choices=range(1, 33), metavar="K", help="bits of a burst (4)")
-    faults.add_argument("--replicas", type=int, choices=REPLICAS, default=3, help="(3)")
+    faults.add_argument("--replicas", type=replicas, default=[3], metavar="N,..",
+                        help="2, 3 or 5; of several numbers each is run (3)")
     faults.add_argument("--drivers", type=int, choices=range(1, MAX_DRIVERS + 1), default=1,
                         help="(1, with which the same run gives the same journal)")
     faults.add_argument("--unreplicated", action="store_true", help="the same faults in a machine that nobody compares")
@@ -91,15 +118,7 @@ def read_arguments():
     how.add_argument("--jobs", type=int, default=os.cpu_count(), help="runs at once (as many as there are processors)")
     how.add_argument("--scheduler", metavar="ADDRESS", help="run on a cluster of Dask, as tcp://host:8786")
     how.add_argument("--seconds", type=float, default=120, help="that one run may take (120)")
-    told = parser.add_argument_group("what is told")
-    told.add_argument("--rows", metavar="FILE", help="rows of SQLite, a run each; what is there isn't run again")
-    told.add_argument("--csv", metavar="FILE", help="all rows as CSV")
-    told.add_argument("--table", type=pathlib.Path, metavar="FILE", help="tables of all rows (standard output)")
-    told.add_argument("--plot", metavar="FILE", help="picture of the fates; this and the next by matplotlib")
-    told.add_argument("--latencies", metavar="FILE", help="picture of the latencies")
-    told.add_argument("--points", metavar="NAME", help="the share of runs that end wrong by faults a run and by scrubs, of "
-                      f"{' and '.join(drawing.MANY)}: NAME.md and NAME.csv")
-    told.add_argument("--points-plot", metavar="FILE", help="picture of these shares, by matplotlib")
+    add_what_is_told(parser)
     arguments = parser.parse_args()
     if arguments.check is not None:
         arguments.runs = arguments.check
@@ -108,8 +127,8 @@ def read_arguments():
 
 def look_for_folders(arguments):
     """Where a file is to be written and there is no such folder, that is said before anything is run."""
-    for path in arguments.rows, arguments.csv, arguments.table, arguments.plot, arguments.latencies, arguments.points, \
-            arguments.points_plot:
+    for path in (arguments.rows, arguments.csv, arguments.table, arguments.compare, arguments.plot, arguments.latencies,
+                 arguments.points, arguments.points_plot):
         if path and not pathlib.Path(path).absolute().parent.is_dir():
             sys.exit(f"campaign: failed, nothing was run: {path}: there is no such folder")
 
@@ -130,7 +149,7 @@ def build(arguments):
     if done.returncode != 249:
         print(done.stderr.decode(errors="replace"), end="", file=sys.stderr)
         sys.exit(f"campaign: failed, nothing was run: {script} run ends with status {done.returncode}, not 249")
-    arguments.romain = os.path.abspath(arguments.romain or ROOT / "crates/romain/out/romain")
+    arguments.romain = os.path.abspath(arguments.romain or places.program())
 
 
 def requests(arguments):
@@ -148,8 +167,9 @@ def requests(arguments):
 
 @dataclasses.dataclass
 class Campaign:
-    """Of one program, with one number of faults a run and of steps from scrub to scrub."""
+    """Of one program, with one number of replicas, of faults a run and of steps from scrub to scrub."""
     program: programs.Program
+    replicas: int  # that faults are drawn for
     count: int
     scrub: int
     key: list  # what names its rows, but for their numbers
@@ -157,24 +177,24 @@ class Campaign:
 
 def campaigns_of(arguments, program):
     machine = "unreplicated" if arguments.unreplicated else "replicated"
-    replicas = 1 if arguments.unreplicated else arguments.replicas
     width = arguments.width if arguments.pattern == "burst" else 1
     counts = arguments.faults_per_run if arguments.pattern in drawing.MANY else [2 if arguments.pattern.startswith("two") else 1]
-    for count, scrub in itertools.product(counts, arguments.scrub):
-        key = [program.name, program.image, machine, replicas, arguments.drivers, scrub, arguments.pattern, count, width,
+    for replicas, count, scrub in itertools.product(arguments.replicas, counts, arguments.scrub):
+        running_replicas = 1 if arguments.unreplicated else replicas
+        key = [program.name, program.image, machine, running_replicas, arguments.drivers, scrub, arguments.pattern, count, width,
                ",".join(arguments.kinds), arguments.seed]
-        yield Campaign(program, count, scrub, key)
+        yield Campaign(program, replicas, count, scrub, key)
 
 
 def job_of(arguments, campaign, number):
     """A run that is to be made, and what of its row is known before."""
     program = campaign.program
-    drawn = drawing.draw_run(program, arguments.seed, number, arguments.pattern, arguments.replicas, campaign.count,
+    drawn = drawing.draw_run(program, arguments.seed, number, arguments.pattern, campaign.replicas, campaign.count,
                              arguments.width, arguments.kinds)
     struck = drawing.unreplicated(drawn) if arguments.unreplicated else drawn
     first = drawn[0]
     section, symbol = program.name_of(first.number) if first.kind == "mem" else ("", "")
-    replicas = 2 if arguments.unreplicated else arguments.replicas
+    replicas = 2 if arguments.unreplicated else campaign.replicas
     words = program.words + ["--replicas", str(replicas), "--drivers", str(arguments.drivers),
                              "--limit", str(program.limit())]
     words += ["--scrub", str(campaign.scrub)] if campaign.scrub else []
@@ -211,14 +231,23 @@ def results_of(arguments, jobs):
 
 
 def bar(done, total):
-    """A progress bar on a terminal, where tqdm is here."""
+    """A progress bar on a terminal, where tqdm is here; else how many there are by now, on a line that is written over."""
     if not sys.stderr.isatty():
         return done
     try:
         from tqdm import tqdm
     except ImportError:
-        return done
+        return counted(done, total)
     return tqdm(done, total=total)
+
+
+def counted(done, total):
+    told = time.monotonic()
+    for number, one in enumerate(done, 1):
+        yield one
+        if number == total or time.monotonic() - told > 1:
+            told = time.monotonic()
+            print(f"\rcampaign: {number} of {total} runs", end="\n" if number == total else "", file=sys.stderr, flush=True)
 
 
 def run_all(arguments, campaigns, kept):
@@ -245,6 +274,8 @@ def tell(arguments, kept):
     if arguments.points_plot and shares:
         points.plot(shares, arguments.points_plot)
     every = list(kept.every())
+    if arguments.compare:
+        arguments.compare.write_text(comparing.compared(every))
     if arguments.table:
         arguments.table.write_text(telling.table(every))
     elif arguments.check is None and not arguments.points and not arguments.points_plot:
@@ -270,6 +301,16 @@ def summary(arguments, campaigns, kept, was_interrupted):
     return 1 if is_troubled else INTERRUPTED if was_interrupted else 0
 
 
+def make_again(arguments, campaigns):
+    """One run once more; says where what tells of it lies."""
+    if len(campaigns) != 1:
+        return "campaign: failed, nothing was run: --again is of one program, with one number of replicas, faults and scrubs"
+    job, name = job_of(arguments, campaigns[0], arguments.again), f"{campaigns[0].program.name}-{arguments.again}"
+    judged = again.make_again(job, name)
+    print(f"campaign: run {arguments.again} of {campaigns[0].program.name}, {judged['fate']}; what tells of it lies in {name}")
+    return 1 if judged.get("trouble") else 0
+
+
 def opened(arguments):
     """The programs that are asked for, run without faults, and the rows."""
     asked = requests(arguments)
@@ -283,6 +324,7 @@ def opened(arguments):
 
 def main():
     arguments = read_arguments()
+    signal.signal(signal.SIGTERM, signal.default_int_handler)  # as an interrupt
     look_for_folders(arguments)
     look_for_libraries(arguments)
     try:
@@ -295,6 +337,8 @@ def main():
     except sqlite3.Error as error:
         sys.exit(f"campaign: failed, nothing was run: {arguments.rows}: {error}")
     campaigns = [campaign for program in every for campaign in campaigns_of(arguments, program)]
+    if arguments.again is not None:
+        sys.exit(make_again(arguments, campaigns))
     was_interrupted = False
     try:
         run_all(arguments, campaigns, kept)

@@ -8,7 +8,8 @@ There is a lane for each thread of each replica. A bar is a run of instructions;
 for itself up to the vote that waits for it. Where two drivers were in one replica at once their bars are underlined. A triangle is
 a lease that came back by a `part`. A line is a vote, one over all lanes a scrub, an arrow a copy, a flash a strike; the lanes of a
 scrub's losers are framed there. Long runs that would take too much room are cut, and short ones get a least width, so
-a line of a long journal holds some dozens of votes. With the fault list, strikes stand where they struck; without, at the end of
+a line of a long journal holds some dozens of votes. --from and --to draw a part of a long run, by instructions as they stand below
+each line, and frame it in the overview. With the fault list, strikes stand where they struck; without, at the end of
 their turn. `-` is standard input, and standard output where no -o is given.
 """
 import argparse
@@ -73,7 +74,17 @@ class Drawing:
     waits: str  # for what they did
     lanes: list
     end: str
-    length: int
+    length: int  # the last place that is drawn, in instructions
+    start: int = 0  # and the first one
+
+    def window(self, first, last):
+        """The part between two places; what reaches over an end of it is cut there."""
+        bars = [dataclasses.replace(bar, start=max(bar.start, first), end=min(bar.end, last)) for bar in self.bars
+                if bar.start < last and first < bar.end]
+        marks = [mark for mark in self.marks if first <= mark.at <= last]
+        strikes = [strike for strike in self.strikes if first <= strike.at <= last]
+        parts = {(lane, at): count for (lane, at), count in self.parts.items() if first <= at <= last}
+        return dataclasses.replace(self, bars=bars, marks=marks, strikes=strikes, parts=parts, start=first, length=last)
 
 
 def read_text(path):
@@ -211,10 +222,10 @@ class Scale:
     then cut into lines that fit."""
 
     def __init__(self, drawing):
-        points = sorted({0, drawing.length, *(mark.at for mark in drawing.marks)})
+        points = sorted({drawing.start, drawing.length, *(mark.at for mark in drawing.marks)})
         gaps = [b - a for a, b in zip(points, points[1:])]
         self.factor = MIDDLE / max(1, statistics.median(gaps)) if gaps else 1.0
-        self.points, self.places, self.lines, self.cuts = points, {0: (0, 0.0)}, [0], []
+        self.points, self.places, self.lines, self.cuts = points, {drawing.start: (0, 0.0)}, [drawing.start], []
         widths = [min(MOST, max(LEAST, gap * self.factor)) for gap in gaps]
         # a short run gets more room
         stretch = max(1.0, min(STRETCH, (WIDTH - LEFT - RIGHT - END) / max(1.0, sum(widths))))
@@ -268,13 +279,16 @@ def number(value):
 
 
 class Picture:
-    """The picture: a legend, an overview where there are many lines, and the lines, each with the lanes that it needs."""
+    """The picture of a run, or of a window of it: a legend, an overview of the whole run where there are many lines or a window,
+    and the lines, each with the lanes that it needs."""
 
-    def __init__(self, drawing, scale, summary):
-        self.drawing, self.scale, self.summary, self.body = drawing, scale, summary, ""
+    def __init__(self, drawing, whole, summary):
+        self.drawing, self.run, self.scale, self.summary, self.body = drawing, whole, Scale(drawing), summary, []
+        self.is_window = (drawing.start, drawing.length) != (whole.start, whole.length)
+        scale = self.scale
         self.bars = [(line, left, right, bar) for bar in drawing.bars if bar.end > bar.start
                      for line, left, right in scale.gaps_of(bar.start, bar.end)]
-        self.overview = OVERVIEW if len(scale.lines) > 3 else 0
+        self.overview = OVERVIEW if len(scale.lines) > 3 or self.is_window else 0
         self.rows, self.tops, y = [], [], 62 + self.overview
         for needed in self.lanes_by_line():
             rows, height = self.rows_of(needed)
@@ -305,7 +319,7 @@ class Picture:
         return rows, y + FOOT
 
     def add(self, name, text=None, **values):
-        self.body += element(name, text, **values)
+        self.body.append(element(name, text, **values))
 
     def text(self, x, y, text, **values):
         self.add("text", html.escape(text), x=number(x), y=number(y), **values)
@@ -330,7 +344,7 @@ class Picture:
         self.end()
         return (f'<svg xmlns="http://www.w3.org/2000/svg" viewBox="0 0 {WIDTH} {self.tops[-1] + 4}" '
                 'font-family="sans-serif" font-size="11">\n<rect width="100%" height="100%" fill="#ffffff"/>\n'
-                f'{self.body}</svg>\n')
+                f'{"".join(self.body)}</svg>\n')
 
     def legend(self):
         """The summary, and below it what the marks mean, as far as they come."""
@@ -366,16 +380,20 @@ class Picture:
         room = WIDTH - LEFT - RIGHT
         self.text(LEFT - 8, 76, "the whole run", text_anchor="end", font_size=9)
         self.add("rect", x=LEFT, y=66, width=room, height=14, fill="#f2f2f2")
-        pixel = {int(room * mark.at / max(1, self.drawing.length)): mark for mark in self.drawing.marks
+        pixel = {int(room * mark.at / max(1, self.run.length)): mark for mark in self.run.marks
                  if mark.what in ("watch", "served")}
-        pixel |= {int(room * mark.at / max(1, self.drawing.length)): mark for mark in self.drawing.marks
+        pixel |= {int(room * mark.at / max(1, self.run.length)): mark for mark in self.run.marks
                   if mark.what not in ("watch", "served")}
         for x, mark in pixel.items():
             self.add("rect", x=LEFT + x, y=66, width=1, height=14, fill=COLOURS.get(mark.what, "#000000"))
-        for at, what in [*((strike.at, strike.title) for strike in self.drawing.strikes),
-                         *((mark.at, mark.title) for mark in self.drawing.marks if mark.copies)]:
-            x = number(LEFT + room * at / max(1, self.drawing.length))
+        for at, what in [*((strike.at, strike.title) for strike in self.run.strikes),
+                         *((mark.at, mark.title) for mark in self.run.marks if mark.copies)]:
+            x = number(LEFT + room * at / max(1, self.run.length))
             self.add("path", title(what), d=f"M{x} 65 l-4 -7 h8 z", fill=RED)
+        if self.is_window:
+            left, right = (LEFT + room * at / max(1, self.run.length) for at in (self.drawing.start, self.drawing.length))
+            self.add("rect", title("what is drawn below"), x=number(left), y=65, width=number(max(1.0, right - left)), height=16,
+                     fill="none", stroke="#000000")
 
     def names(self, line):
         top = self.tops[line]
@@ -422,6 +440,8 @@ class Picture:
                  fill=RED, stroke="#ffffff", stroke_width=0.6)
 
     def end(self):
+        if self.drawing.length < self.run.length:
+            return
         line, x = self.scale.place(self.drawing.length)
         self.text(LEFT + x + 4, self.tops[line] + HEAD - 8, f"end {self.drawing.end}", font_weight="bold",
                   text_anchor="end" if x > WIDTH - LEFT - 160 else "start")
@@ -437,6 +457,8 @@ def read_arguments():
     parser = argparse.ArgumentParser(description=__doc__, formatter_class=argparse.RawDescriptionHelpFormatter)
     parser.add_argument("journal", help="a report with its journal; - is standard input")
     parser.add_argument("--faults", type=pathlib.Path, help="the run's fault list")
+    parser.add_argument("--from", type=int, default=0, dest="first", metavar="N", help="draw from N instructions on (0)")
+    parser.add_argument("--to", type=int, dest="last", metavar="N", help="draw up to N instructions (the end)")
     parser.add_argument("-o", "--out", type=pathlib.Path, help="file.svg or file.html (standard output, SVG)")
     return parser.parse_args()
 
@@ -446,8 +468,11 @@ def draw(arguments):
     report = read_journal(text, arguments.journal)
     if not report.entries:
         sys.exit(f"timeline: {arguments.journal} has no journal; run with --journal")
-    drawing = layout(report, read_faults(arguments.faults))
-    picture = Picture(drawing, Scale(drawing), report.summary).draw()
+    whole = layout(report, read_faults(arguments.faults))
+    first, last = arguments.first, whole.length if arguments.last is None else min(arguments.last, whole.length)
+    if not 0 <= first < max(1, last):
+        sys.exit(f"timeline: the run goes on for {whole.length} instructions, and none of it lies from {first} to {last}")
+    picture = Picture(whole.window(first, last), whole, report.summary).draw()
     if arguments.out and arguments.out.suffix == ".html":
         picture = page(picture, arguments.journal)
     if arguments.out:

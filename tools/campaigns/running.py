@@ -71,7 +71,7 @@ def locally(jobs, count):
     for the main thread alone: neither the other threads nor the programs that they started get it."""
     done, jobs = queue.SimpleQueue(), iter(jobs)
     pool = concurrent.futures.ThreadPoolExecutor(count, initializer=signal.pthread_sigmask,
-                                                 initargs=(signal.SIG_BLOCK, {signal.SIGINT}))
+                                                 initargs=(signal.SIG_BLOCK, {signal.SIGINT, signal.SIGTERM}))
 
     def begin(some):
         """How many of them there are, all of them begun."""

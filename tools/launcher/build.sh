@@ -14,6 +14,11 @@ fail() {
     exit 1
 }
 
+# In a package the programs lie in a folder of their own, and there are no sources.
+is_package() {
+    [ -d "$root/programs" ]
+}
+
 # choose COMMAND: an audit is a program of its own. The words verb, data/z0 and rest make a run of it that exits with 0.
 choose() {
     crate=romain verb=run rest=
@@ -26,15 +31,25 @@ choose() {
         program=$root/out/unproved/$crate
         lock=$root/out/unproved/.build-lock
     fi
+    if is_package; then
+        [ -z "$unproved" ] || fail "this is a package, which has no sources to build without proofs"
+        program=$root/programs/$crate
+    fi
+}
+
+# Whether the chosen program was built without proofs.
+is_unproved() {
+    [ -n "$unproved" ] || { is_package && grep -q 'not proved' "$program.built"; }
 }
 
 # A source that is newer than the program. The edits of must-fail/ are no part of it.
 newer_source() {
-    find "$root/crates" "$root/crates.txt" \( -path '*/out' -o -path '*/must-fail' \) -prune \
+    is_package || find "$root/crates" "$root/crates.txt" \( -path '*/out' -o -path '*/must-fail' \) -prune \
         -o -type f -newer "$program" -print | head -n 1
 }
 
 is_stale() {
+    ! is_package || return 1
     [ ! -x "$program" ] || [ -n "$(newer_source)" ]
 }
 
@@ -203,10 +218,13 @@ commit() {
     fi
 }
 
-# Of each program that is built its commit, whether it was proved, and the kit; of romain also where it isn't.
+# Of each program that is built its commit, whether it was proved, and the kit; of romain also where it isn't. Of a package that
+# stands beside its programs.
 version() {
+    echo "version $(version_number)"
     for command in run audit; do
         for unproved in '' yes; do
+            [ -z "$unproved" ] || ! is_package || continue
             choose "$command"
             name=$crate
             [ -z "$unproved" ] || name="$crate --unproved"

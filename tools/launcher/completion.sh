@@ -7,6 +7,13 @@ _romain() {
     while [[ ${COMP_WORDS[command]} == --* && $command -lt $COMP_CWORD ]]; do
         command=$((command + 1))
     done
+    case ${COMP_WORDS[COMP_CWORD - 1]} in
+PART
+    of_words values | while read -r option values; do
+        echo "    $option) COMPREPLY=(\$(compgen -W '$values' -- \"\$word\")) && return ;;"
+    done
+    cat <<'PART'
+    esac
     case ${COMP_WORDS[command]} in
 PART
     of_words options | while read -r command options; do

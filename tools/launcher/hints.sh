@@ -2,6 +2,7 @@
 # it has set root, program, unproved and self, the script's own name.
 
 tab=$(printf '\t')
+PAGE='; docs/TROUBLE.md has more'
 
 run() {
     status=0
@@ -28,11 +29,20 @@ run_with_hint() {
 
 # hint WORD..: the line for the run of these words, if there is one
 hint() {
+    if [ "${1:-}$status" = audit236 ]; then
+        echo "the options have to be those of the run but for --mode, and EXE, --input and --faults its files$PAGE"
+        return
+    fi
     answer=$(sed -n 's/^answer //p' "$folder/ends")
     case $answer in
     words) of_words wrong "$@" ;;
     store) unread "$@" ;;
     exe\ *) row "${answer#exe }" ;;
+    too-long) too_long "$@" ;;
+    faults\ *) bad_line --faults ${answer#faults } "$@" ;;
+    plan\ *) bad_line "$(plan_of "$1")" ${answer#plan } "$@" ;;
+    limit\ *) [ "$1" != run ] || of_limit "$@" ;;
+    unended) echo "the plan was run to its end, and the program could go on: its run ended by a limit, or the journal is not whole$PAGE" ;;
     trap\ * | deadlock | differ | no-majority) [ "$1" != run ] || audit_of "$@" ;;
     *) [ "$1" != run ] || ! grep -q '^votes .* copies [1-9].* struck 0 ' "$folder/ends" || races_of "$@" ;;
     esac
@@ -54,6 +64,58 @@ unread() {
             break
         fi
     done
+}
+
+# The file that is longer than its kind may be.
+too_long() {
+    of_words files "$@" | while IFS=$tab read -r name file; do
+        case $name in
+        EXE) most=8388608 ;;
+        --input) most=1048576 ;;
+        --faults) most=65536 ;;
+        *) most=16777216 ;;
+        esac
+        if [ ! -f "$file" ] || [ "$(wc -c <"$file")" -gt "$most" ]; then
+            echo "$file is longer than $most bytes$PAGE"
+            break
+        fi
+    done
+}
+
+plan_of() {
+    case $1 in
+    audit) echo --journal ;;
+    *) echo --plan ;;
+    esac
+}
+
+# bad_line OPTION LINE CODE WORD..: what is wrong with a line of a fault list or of a plan
+bad_line() {
+    option=$1 line=$2 code=$3
+    shift 3
+    file=$(of_words files "$@" | sed -n "s/^$option$tab//p")
+    [ -f "$file" ] || return 0
+    ends=yes
+    if [ "$line" = "$(awk 'END { print NR }' "$file")" ] && [ -n "$(tail -c 1 "$file")" ]; then
+        ends=
+    fi
+    sed -n "${line}p" "$file" | awk -v option="$option" -v line="$line" -v code="$code" -v ends="$ends" -v file="$file" '
+        function why() {
+            if (code == 3) return "is one too many: a list has at most 256"
+            if (code == 2) return "has a number out of its range" (option == "--faults" ? ", or a replica that does not run" : "")
+            if (/\r$/) return "ends as on Windows, by CR LF and not by LF alone"
+            if (/^[ \t]*$/) return "is empty"
+            if (/^[ \t]*(#|\/\/)/) return "is a remark, and there are none"
+            if (/\t|  |^ | $/) return "has more than one space, or a tab, between two words or at an end"
+            if (option != "--faults" && line == 1) return "is no beginning of a journal: the run needs --journal"
+            if (!ends) return "has no line end, which the last line needs, too"
+            return "has not the form of " (option == "--faults" ? "a fault: R T N reg X B, R T N pc B or R T N mem A B" : "an entry")
+        }
+        { print "line " line " of " file " " why() }' | sed "s|\$|$PAGE|"
+}
+
+of_limit() {
+    echo "the program was not done: a larger --limit lets it take more steps$PAGE, also of loops without an end"
 }
 
 # row CODE: of an executable that isn't accepted, what docs/GUESTS.md says of the code

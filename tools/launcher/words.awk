@@ -3,6 +3,7 @@
 #   awk -f words.awk -- wrong WORD..      the first word that is wrong, and the command's usage
 #   awk -f words.awk -- files WORD..      the files that the words name, each after its option or EXE, in the order of reading
 #   awk -f words.awk -- options           each command with its options, a line each
+#   awk -f words.awk -- values            each option that has a few values alone with these, a line each
 
 BEGIN {
     what = ARGV[1]
@@ -21,9 +22,11 @@ END {
             if (!((command, name) in takes))
                 takes[command, name] = general[name]
     if (what == "wrong")
-        print wrong() ". " ((words[1] in usage) ? "Usage: " usage[words[1]] : "Commands: " commands_of() "; see romain --help")
+        print wrong_sentence() ((words[1] in usage) ? "Usage: " usage[words[1]] : "Commands: " commands_of() "; see romain --help")
     else if (what == "files")
         tell_files()
+    else if (what == "values")
+        tell_values()
     else
         tell_options()
 }
@@ -64,6 +67,11 @@ function read_range() {
         else if (match($0, /[a-z]+ or [a-z]+, default/))
             range[about] = substr($0, RSTART, RLENGTH - length(", default"))
     }
+}
+
+function wrong_sentence(    trouble) {
+    trouble = wrong()
+    return trouble (trouble ~ /[?]$/ ? " " : ". ")
 }
 
 function commands_of(    i, line) {
@@ -114,8 +122,10 @@ function wrong_option(command, at,    name, given, has_value) {
     name = given = words[at]
     sub(/=.*/, "", name)
     has_value = sub(/^[^=]*=/, "", given)
+    if (name == "--help")
+        return "--help stands alone, and not behind a command: romain --help"
     if (!((command, name) in takes))
-        return name " is no option of " command
+        return name " is no option of " command meant(command, name)
     if (seen[name]++)
         return name " stands twice"
     if (takes[command, name] == "")
@@ -128,6 +138,43 @@ function wrong_option(command, at,    name, given, has_value) {
         return name " needs a value"
     values[name] = given
     return wrong_value(name, given)
+}
+
+# The option that may have been meant: one that is written almost so.
+function meant(command, name,    pair, parts, best, least, apart) {
+    least = 3
+    for (pair in takes) {
+        split(pair, parts, SUBSEP)
+        if (parts[1] != command)
+            continue
+        apart = index(parts[2], name) == 1 && length(name) > 3 ? 0 : distance(name, parts[2])
+        if (apart < least) {
+            least = apart
+            best = parts[2]
+        }
+    }
+    return best == "" ? "" : "; did you mean " best "?"
+}
+
+# How many letters have to be put in, left out or changed to make one word of the other.
+function distance(one, other,    i, k, row, before, kept, changed) {
+    for (k = 0; k <= length(other); k++)
+        row[k] = k
+    for (i = 1; i <= length(one); i++) {
+        before = row[0]
+        row[0] = i
+        for (k = 1; k <= length(other); k++) {
+            kept = row[k]
+            changed = before + (substr(one, i, 1) != substr(other, k, 1))
+            row[k] = least_of(changed, least_of(row[k] + 1, row[k - 1] + 1))
+            before = kept
+        }
+    }
+    return row[length(other)]
+}
+
+function least_of(one, other) {
+    return one < other ? one : other
 }
 
 function wrong_value(name, given,    ends) {
@@ -170,6 +217,15 @@ function tell_files(    i, name, given, file, kinds, count_of_kinds) {
     for (i = 1; i <= count_of_kinds; i++)
         if (kinds[i] in file)
             print kinds[i] "\t" file[kinds[i]]
+}
+
+function tell_values(    name, choices) {
+    for (name in range)
+        if (name ~ /^--/ && range[name] ~ / or /) {
+            choices = range[name]
+            gsub(/, | or /, " ", choices)
+            print name " " choices
+        }
 }
 
 function tell_options(    i, pair, name, line) {

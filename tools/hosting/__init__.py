@@ -1,0 +1,1 @@
+"""Bits that flip in the process that runs Romain itself."""

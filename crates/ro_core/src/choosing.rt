@@ -75,18 +75,26 @@ impl Core {
     }
 
     // The turn of a thread that has waited too long, and else the lowest.
-    #[inline]
     fn next_turn(&self) -> Option<Action>
         requires holds { Holds (fields_of self.now) }
         ensures { result ≡ or_else (urgent_next (state_of self.now)) (turn_next (state_of self.now)) }
     {
-        if self.waits.votes() < self.calm {
-            return self.turn_next();
-        }
-        match self.urgent_next() {
+        match self.overdue_next() {
             Some(action) => Some(action),
             None => self.turn_next(),
         }
+    }
+
+    // The turn of a thread that has waited too long. Where it is known that there is none, nobody is asked.
+    #[inline(always)]
+    fn overdue_next(&self) -> Option<Action>
+        requires holds { Holds (fields_of self.now) }
+        ensures { result ≡ urgent_next (state_of self.now) }
+    {
+        if self.waits.votes() < self.calm {
+            return None;
+        }
+        self.urgent_next()
     }
 
     // The vote or the lease of the thread that has waited longest, if one has waited too long and can go on.
@@ -312,6 +320,7 @@ impl Core {
 }
 
 /// Until how many votes no thread that lives and is not blocked is overdue: as before an event, where that stays so.
+#[inline(always)]
 pub(crate) fn calm_behind(
     waits: &Waits,
     kernel: &Kernel,

@@ -3,6 +3,7 @@
 
     tools/campaign.py --runs 1000 --rows rows.sqlite --table table.md --plot fates.svg --latencies latencies.svg
     tools/campaign.py --exe mine --input data --runs 1000 --rows rows.sqlite
+    tools/campaign.py --exe mine --width 2 --rows rows.sqlite
     tools/campaign.py --exe mine --runs 1000 --rows rows.sqlite --unreplicated
     tools/campaign.py --guests ledger --pattern scattered --faults-per-run 1,2,4,8 --scrub 0,100000,10000 --kinds reg,mem \
         --runs 10000 --rows scrubs.sqlite --points scrubs --points-plot scrubs.svg
@@ -30,11 +31,12 @@ import sys
 import time
 
 import places
-from campaigns import again, comparing, drawing, judging, points, programs, rows, running, telling
+from campaigns import again, comparing, drawing, judging, narrowing, points, programs, rows, running, telling
 
 ROOT = programs.ROOT
 REPLICAS = [2, 3, 5]
 MAX_DRIVERS = 8
+RUNS, MOST_RUNS = 200, 100_000  # of each program; where a width says how many, at most
 INTERRUPTED = 130  # the status of a shell's command that SIGINT ended
 
 
@@ -64,6 +66,13 @@ def replicas(text):
     if not set(chosen) <= set(REPLICAS):
         raise argparse.ArgumentTypeError(f"there are {', '.join(map(str, REPLICAS))}")
     return chosen
+
+
+def width(text):
+    per_cent = float(text)
+    if not 0 < per_cent <= 100:
+        raise argparse.ArgumentTypeError("it is above 0 and at most 100")
+    return per_cent
 
 
 def request(text):
@@ -98,7 +107,9 @@ def read_arguments():
     what.add_argument("--limit", type=int, default=10**9, help="steps of the run without faults (10^9)")
     what.add_argument("--racy", action="store_true", help="a program with threads isn't looked at for data races before")
     faults = parser.add_argument_group("what strikes it")
-    faults.add_argument("--runs", type=int, default=200, help="of each program (200)")
+    faults.add_argument("--runs", type=int, help=f"of each program ({RUNS}); with --width at most so many ({MOST_RUNS:,})")
+    faults.add_argument("--width", type=width, metavar="W", help="runs go on until the 95 %% interval of each fate, and of the "
+                        "share that the tables give, is at most so wide, in per cent")
     faults.add_argument("--check", type=int, metavar="N", help="N runs of each program, no table, one line at the end")
     faults.add_argument("--seed", type=int, default=1, help="of the draws (1)")
     faults.add_argument("--pattern", choices=drawing.PATTERNS, default="one",
@@ -108,7 +119,7 @@ def read_arguments():
     faults.add_argument("--kinds", type=kinds, default=drawing.KINDS, metavar="K,..", help="reg, pc, mem: what is struck (all)")
     faults.add_argument("--scrub", type=numbers, default=[0], metavar="N,..",
                         help="of the runs, 0 for never; of several numbers each is run, with the same faults (0)")
-    faults.add_argument("--width", type=int, default=4, choices=range(1, 33), metavar="K", help="bits of a burst (4)")
+    faults.add_argument("--bits", type=int, default=4, choices=range(1, 33), metavar="K", help="of a burst (4)")
     faults.add_argument("--replicas", type=replicas, default=[3], metavar="N,..",
                         help="2, 3 or 5; of several numbers each is run (3)")
     faults.add_argument("--drivers", type=int, choices=range(1, MAX_DRIVERS + 1), default=1,
@@ -122,6 +133,8 @@ def read_arguments():
     arguments = parser.parse_args()
     if arguments.check is not None:
         arguments.runs = arguments.check
+    if arguments.runs is None:
+        arguments.runs = MOST_RUNS if arguments.width else RUNS
     return arguments
 
 
@@ -177,11 +190,11 @@ class Campaign:
 
 def campaigns_of(arguments, program):
     machine = "unreplicated" if arguments.unreplicated else "replicated"
-    width = arguments.width if arguments.pattern == "burst" else 1
+    bits = arguments.bits if arguments.pattern == "burst" else 1
     counts = arguments.faults_per_run if arguments.pattern in drawing.MANY else [2 if arguments.pattern.startswith("two") else 1]
     for replicas, count, scrub in itertools.product(arguments.replicas, counts, arguments.scrub):
         running_replicas = 1 if arguments.unreplicated else replicas
-        key = [program.name, program.image, machine, running_replicas, arguments.drivers, scrub, arguments.pattern, count, width,
+        key = [program.name, program.image, machine, running_replicas, arguments.drivers, scrub, arguments.pattern, count, bits,
                ",".join(arguments.kinds), arguments.seed]
         yield Campaign(program, replicas, count, scrub, key)
 
@@ -190,7 +203,7 @@ def job_of(arguments, campaign, number):
     """A run that is to be made, and what of its row is known before."""
     program = campaign.program
     drawn = drawing.draw_run(program, arguments.seed, number, arguments.pattern, campaign.replicas, campaign.count,
-                             arguments.width, arguments.kinds)
+                             arguments.bits, arguments.kinds)
     struck = drawing.unreplicated(drawn) if arguments.unreplicated else drawn
     first = drawn[0]
     section, symbol = program.name_of(first.number) if first.kind == "mem" else ("", "")
@@ -208,11 +221,11 @@ def job_of(arguments, campaign, number):
             "replicas_struck": sorted({fault.replica for fault in struck})}
 
 
-def jobs_of(arguments, campaigns, kept, drawn_parts):
-    """The runs that are not among the rows yet. What was drawn for each is laid down until its row comes."""
+def jobs_of(arguments, campaigns, runs, kept, drawn_parts):
+    """So many runs of each, but for those that are among the rows. What was drawn for each is laid down until its row comes."""
     for campaign in campaigns:
         there = kept.numbers(campaign.key)
-        for number in range(arguments.runs):
+        for number in range(runs):
             if number not in there:
                 job = job_of(arguments, campaign, number)
                 drawn_parts[tuple(job["key"])] = job.pop("drawn"), job["words"]
@@ -250,11 +263,11 @@ def counted(done, total):
             print(f"\rcampaign: {number} of {total} runs", end="\n" if number == total else "", file=sys.stderr, flush=True)
 
 
-def run_all(arguments, campaigns, kept):
-    """Makes the runs and keeps their rows; what differs is told at once."""
+def run_all(arguments, campaigns, runs, kept):
+    """Makes so many runs of each and keeps their rows; what differs is told at once."""
     drawn_parts = {}
-    jobs = jobs_of(arguments, campaigns, kept, drawn_parts)
-    total = sum(len(set(range(arguments.runs)) - kept.numbers(campaign.key)) for campaign in campaigns)
+    jobs = jobs_of(arguments, campaigns, runs, kept, drawn_parts)
+    total = sum(len(set(range(runs)) - kept.numbers(campaign.key)) for campaign in campaigns)
     with contextlib.closing(results_of(arguments, jobs)) as results:
         for key, judged in bar(results, total):
             drawn, words = drawn_parts.pop(tuple(key))
@@ -262,6 +275,21 @@ def run_all(arguments, campaigns, kept):
             if judged.get("trouble"):
                 print(f"{key[0]}: {judged['trouble']}, by the faults", *drawn[0].splitlines(), sep="\n    ")
                 print(f"of romain {' '.join(words)} --faults FILE", flush=True)
+
+
+def run_until_narrow(arguments, campaigns, kept):
+    """Makes runs of each until its intervals are narrow enough; of those whose aren't at the most number of runs that is told."""
+    def width_of(campaign):
+        return narrowing.widest(kept, campaign.key, arguments.unreplicated)
+
+    wide = campaigns
+    for runs in narrowing.goals(arguments.runs):
+        wide = [campaign for campaign in wide if width_of(campaign) > arguments.width]
+        run_all(arguments, wide, runs, kept)
+    for campaign in wide:
+        if width_of(campaign) > arguments.width:
+            print(f"{campaign.program.name}, replicas {campaign.replicas}, faults {campaign.count}, scrub {campaign.scrub}: after "
+                  f"{arguments.runs} runs an interval is {width_of(campaign):.1f} % wide")
 
 
 def tell(arguments, kept):
@@ -296,7 +324,8 @@ def summary(arguments, campaigns, kept, was_interrupted):
     fates = judging.FATES_ALONE if arguments.unreplicated else judging.FATES
     told = ", ".join(f"{counts[fate]} {fate}" for fate in fates if counts[fate] or fate == "differs")
     verdict = "failed" if is_troubled else "interrupted" if was_interrupted else "passed"
-    runs = f"{counts.total()} of {arguments.runs * len(campaigns)}" if was_interrupted else f"{counts.total()}"
+    most = f"{'at most ' if arguments.width else ''}{arguments.runs * len(campaigns)}"
+    runs = f"{counts.total()} of {most}" if was_interrupted else f"{counts.total()}"
     print(f"campaign: {verdict}, {runs} runs: {told}")
     return 1 if is_troubled else INTERRUPTED if was_interrupted else 0
 
@@ -341,7 +370,10 @@ def main():
         sys.exit(make_again(arguments, campaigns))
     was_interrupted = False
     try:
-        run_all(arguments, campaigns, kept)
+        if arguments.width:
+            run_until_narrow(arguments, campaigns, kept)
+        else:
+            run_all(arguments, campaigns, arguments.runs, kept)
     except KeyboardInterrupt:
         was_interrupted = True
     tell(arguments, kept)

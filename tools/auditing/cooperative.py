@@ -248,12 +248,18 @@ class Cooperative(Core):
     # ---- An event
 
     def won(self, thread: int) -> Won | None:
-        """What a vote on the thread comes to; None where not all views are one."""
+        """What a vote on the thread comes to; None where not all views are one, or the replicas leave its reservation unlike."""
         first, *others = [replica.view(thread) for replica in self.replicas]
-        if any(view != first for view in others):
+        if any(view != first for view in others) or not self.lapses_alike(thread):
             return None
         stop = self.replicas[0].threads[thread].stop
         return Won(0, (), first[2], self.event(thread, stop, self.replicas[0].payload(stop)))
+
+    def lapses_alike(self, thread: int) -> bool:
+        """By all replicas the same is left of the thread's reservation: it has none in the kernel, or all of them answered a call of
+        it, or none did."""
+        answered = [thread in side.answered for side in self.sides]
+        return thread not in self.kernel.reservations or all(answered) or not any(answered)
 
     def added(self, won: Won) -> int:
         """The instructions before count where they are made."""

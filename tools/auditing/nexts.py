@@ -27,16 +27,25 @@ def turns_of(core: Core, threads: list[int]) -> list[Action]:
     return votes[:1] or leases_of(core, threads)
 
 
+def overdue(core: Core) -> list[int]:
+    """The threads that have waited too long, those that have waited longest first, and of several the lowest."""
+    late = [thread for thread in range(len(core.kernel.lives)) if core.waited[thread] >= PATIENCE]
+    return sorted(late, key=lambda thread: -core.waited[thread])
+
+
+def frees_of(core: Core, threads: list[int]) -> list[Action]:
+    """The free of the first of these threads that can be freed, if one can."""
+    return [("free", thread) for thread in threads if core.may_free(thread)][:1]
+
+
 def urgent_turn(core: Core) -> list[Action]:
     """What can be done for the thread that has waited longest of those that have waited too long, the lowest of several."""
-    overdue = [thread for thread in range(len(core.kernel.lives)) if core.waited[thread] >= PATIENCE]
-    turns = (turns_of(core, [thread]) for thread in sorted(overdue, key=lambda thread: -core.waited[thread]))
-    return next(filter(None, turns), [])
+    return next(filter(None, (turns_of(core, [thread]) for thread in overdue(core))), [])
 
 
 def next_action(core: Core) -> Action:
-    """A free comes first, then a thread that has waited too long, then the lowest vote, and the lowest lease. While a scrub is due
-    there are leases alone, the lowest first."""
+    """A free comes first, of a thread that has waited too long or else of the lowest, then the turn of one that has waited too long,
+    then the lowest vote, and the lowest lease. While a scrub is due there are leases alone, the lowest first."""
     if core.ended is not None:
         return ("over",)
     if core.due is not None:
@@ -45,7 +54,7 @@ def next_action(core: Core) -> Action:
     if is_scrub_due(core):
         found = leases_of(core, threads)
     else:
-        found = [("free", thread) for thread in threads if core.may_free(thread)] or urgent_turn(core) or turns_of(core, threads)
+        found = frees_of(core, overdue(core) + threads) or urgent_turn(core) or turns_of(core, threads)
     if found:
         return found[0]
     return ("wait",) if core.leases else ("scrub",) if is_scrub_due(core) else ("end", "deadlock")

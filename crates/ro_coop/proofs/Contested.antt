@@ -4,13 +4,16 @@ use Rattle.std.specs.Option.{option_map_or}
 use Rattle.std.proofs.Common.{refl, sym, ap, ◌∙◌, subst, arith, inl, inr}
 use Rattle.std.proofs.Math.Dec.{lit≤}
 use Rattle.std.proofs.lemmas.Bool.{false≢true}
-use Rattle.ro_decode.specs.Table.{instruction_of}
+use Rattle.ro_decode.specs.Table.{instruction_of, word_of}
 use Rattle.ro_event.specs.Table.{call_at}
 use Rattle.ro_region.specs.Permission.{permits_of}
 use Rattle.ro_alu.specs.Results.{alu_of, taken_by}
 use Rattle.ro_exec.specs.Meaning.{meaning}
 use Rattle.ro_exec.specs.Next.{fetch_stop, instruction_stop, next}
 use Rattle.ro_exec.specs.Threads.{first_cpu, made_cpu}
+use Rattle.ro_event.specs.Views.{View}
+use Rattle.ro_journal.specs.declared.Did.{Did}
+use Rattle.ro_journal.specs.declared.losers.Lost.{Lost}
 use Rattle.ro_journal.specs.declared.Entry.TheVariants.{End}
 use Rattle.ro_journal.specs.declared.How.TheVariants.{Exit as ExitHow, Deadlock, Differ}
 use Rattle.ro_kernel.specs.Serve.{serve, payload_of}
@@ -31,12 +34,12 @@ use Rattle.ro_peer.specs.Gets.{Get, InRows}
 use Rattle.ro_legal.specs.Core.{opening_core as opening_voted, is_awaited, is_lendable, may_vote, views_of}
 use Rattle.ro_legal.specs.Event.{event_of}
 use Rattle.ro_legal.specs.Legal.{is_stuck}
-use Rattle.ro_legal.specs.Cooperative.{opening_core, after, lease_run, MayPart, for_vote, EndsVote, Legal, replay, gets_from}
+use Rattle.ro_legal.specs.Cooperative.{opening_core, after, lease_run, lapses_alike, AgreeOn, MayVote, MayPart, for_vote, EndsVote, Legal, replay, gets_from}
 use Rattle.ro_coop.specs.Core.{first_of}
-use Rattle.ro_coop.specs.Contests.{contest_job, lease_by, writers_guest, writers_job, writers_mutex, page_of_threads, writers_asked, writers_got, writers_parted, writers_wrote, writers_freed, writers_freed_too, writers_journal, contest_shown, crossing_guest, crossing_job, crossing_again, crossing_stuck, crossing_journal, waiting_guest, waiting_job, waiting_stuck, waiting_journal, byte_guest, byte_job, byte_front, byte_journal}
+use Rattle.ro_coop.specs.Contests.{contest_job, lease_by, writers_guest, writers_job, writers_mutex, page_of_threads, writers_asked, writers_got, writers_parted, writers_wrote, writers_freed, writers_freed_too, writers_journal, contest_shown, crossing_guest, crossing_job, crossing_again, crossing_stuck, crossing_journal, waiting_guest, waiting_job, waiting_stuck, waiting_journal, byte_guest, byte_job, byte_front, byte_journal, reserving_job, reserving_front, with_none_answered, store_answers}
 use Rattle.ro_coop.proofs.Rules.{views-agree}
 use Rattle.ro_coop.proofs.Unshared.{unshared-free}
-use Rattle.ro_coop.proofs.Tests.{test_legal, are_apart, is_parked_at, legal-of, legal-more, apart-of}
+use Rattle.ro_coop.proofs.Tests.{test_legal, are_one, are_apart, is_parked_at, legal-of, legal-more, one-of, apart-of}
 
 range-of : (program : Program) (replicas : ℕ) → IsReplicas replicas → 1 ≤ replicas → replicas ≤ 8 → InRange (contest_job program replicas).settings
 range-of program replicas is least most = record { replicas = is; drivers = (least, most); watchdog = (lit≤ tt, lit≤ tt); quantum = (lit≤ tt, lit≤ tt); limit = (lit≤ tt, lit≤ tt); scrub = (lit≤ tt, lit≤ tt) }
@@ -255,7 +258,7 @@ unfolding in_table opening_core opening_voted after opening_replica first_cpu ma
 byte-apart = refl
 
 pub byte-differs : EndsVote byte_job (replay byte_job byte_front) 0 Differ
-byte-differs = apart-of (views_of byte_job (replay byte_job byte_front) 0) byte-apart
+byte-differs = λ view agree. apart-of (views_of byte_job (replay byte_job byte_front) 0) byte-apart view agree.0
 
 pub byte-ends : Legal byte_job byte_journal
 byte-ends = legal-more byte_job (opening_core byte_job) byte_front (End Differ) byte-legal (byte-goes, for_vote 0 byte-may byte-differs)
@@ -276,3 +279,52 @@ by-trylock = refl
 
 pub by-wait : chosen_of two_waits ≡ no_mutex
 by-wait = refl
+
+-- ---- a reservation
+
+reserving-pass : test_legal reserving_job (opening_core reserving_job) reserving_front ≡ true
+unfolding in_table opening_core opening_voted after opening_replica first_cpu made_cpu next fetch_stop instruction_stop instruction_of word_of call_at permits_of alu_of taken_by meaning serve payload_of event_of applied cancelled leased
+reserving-pass = refl
+
+pub reserving-legal : Legal reserving_job reserving_front
+reserving-legal = legal-of reserving_job (opening_core reserving_job) reserving_front reserving-pass
+
+pub reserving-may : may_vote (replay reserving_job reserving_front) 0 ≡ true
+unfolding in_table opening_core opening_voted after opening_replica first_cpu made_cpu next fetch_stop instruction_stop instruction_of word_of call_at permits_of alu_of taken_by meaning serve payload_of event_of applied cancelled leased
+reserving-may = refl
+
+reserving-one : are_one (views_of reserving_job (replay reserving_job reserving_front) 0) ≡ true
+unfolding in_table opening_core opening_voted after opening_replica first_cpu made_cpu next fetch_stop instruction_stop instruction_of word_of call_at permits_of alu_of taken_by meaning serve payload_of event_of applied cancelled leased
+reserving-one = refl
+
+reserving-lapses : lapses_alike (replay reserving_job reserving_front) 0 ≡ true
+unfolding in_table opening_core opening_voted after opening_replica first_cpu made_cpu next fetch_stop instruction_stop instruction_of word_of call_at permits_of alu_of taken_by meaning serve payload_of event_of applied cancelled leased
+reserving-lapses = refl
+
+pub reserving-agrees : (view : View) × AgreeOn reserving_job (replay reserving_job reserving_front) 0 view
+reserving-agrees = let one = one-of (views_of reserving_job (replay reserving_job reserving_front) 0) reserving-one in (one.0, (one.1, reserving-lapses))
+
+pub reserving-fails : store_answers (replay reserving_job reserving_front) ≡ Some 1
+unfolding in_table opening_core opening_voted after opening_replica first_cpu made_cpu next fetch_stop instruction_stop instruction_of word_of call_at permits_of alu_of taken_by meaning serve payload_of event_of applied cancelled leased
+reserving-fails = refl
+
+pub skipping-may : may_vote (with_none_answered (replay reserving_job reserving_front)) 0 ≡ true
+unfolding in_table opening_core opening_voted after opening_replica first_cpu made_cpu next fetch_stop instruction_stop instruction_of word_of call_at permits_of alu_of taken_by meaning serve payload_of event_of applied cancelled leased
+skipping-may = refl
+
+pub skipping-views : views_of reserving_job (with_none_answered (replay reserving_job reserving_front)) 0 ≡ views_of reserving_job (replay reserving_job reserving_front) 0
+skipping-views = refl
+
+pub skipping-succeeds : store_answers (with_none_answered (replay reserving_job reserving_front)) ≡ Some 0
+unfolding in_table opening_core opening_voted after opening_replica first_cpu made_cpu next fetch_stop instruction_stop instruction_of word_of call_at permits_of alu_of taken_by meaning serve payload_of event_of applied cancelled leased
+skipping-succeeds = refl
+
+skipping-lapses : lapses_alike (with_none_answered (replay reserving_job reserving_front)) 0 ≡ false
+unfolding in_table opening_core opening_voted after opening_replica first_cpu made_cpu next fetch_stop instruction_stop instruction_of word_of call_at permits_of alu_of taken_by meaning serve payload_of event_of applied cancelled leased
+skipping-lapses = refl
+
+pub skipping-differs : EndsVote reserving_job (with_none_answered (replay reserving_job reserving_front)) 0 Differ
+skipping-differs = λ view agree. false≢true (sym skipping-lapses ∙ agree.1)
+
+pub skipping-not : (count won : ℕ) (lost : Lost) (did : Did) → MayVote reserving_job (with_none_answered (replay reserving_job reserving_front)) 0 count won lost did → ⊥
+skipping-not count won lost did m = skipping-differs m.view m.agreed

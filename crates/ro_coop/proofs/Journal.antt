@@ -21,6 +21,7 @@ use Rattle.ro_journal.specs.declared.Entry.{Entry}
 use Rattle.ro_journal.specs.declared.Entry.TheVariants.{Take, Put, Part, Vote, Free, Scrub, End}
 use Rattle.ro_journal.specs.Plan.{event_steps}
 use Rattle.ro_exec.proofs.Backing.{a_call, a_trap}
+use Rattle.ro_kernel.specs.Reserved.{reservation_of}
 use Rattle.ro_kernel.specs.Kernel.{Kernel, lives_on, opening_kernel}
 use Rattle.ro_kernel.specs.Serve.{Served, Done, Parked, Blocked, Ends, serve, is_blocked, is_served, put_out, asked}
 use Rattle.ro_kernel.proofs.Waiting.{blocked-waits}
@@ -52,7 +53,8 @@ use Rattle.ro_coop.proofs.Blocked.{Blocks, blocks-so}
 use Rattle.ro_coop.proofs.Lists.{Each, each-get, each-back}
 use Rattle.ro_coop.proofs.Holds.{Common, Tied, IsWaiting, not-again, Going, Over, Holds, is_on, is_over, take-holds, put-holds}
 use Rattle.ro_coop.proofs.Alike.{views-alike}
-use Rattle.ro_coop.proofs.Settled.{settled-holds, settled-ranges, settled-lives, settled-peer, settled-none}
+use Rattle.ro_coop.proofs.Ended.{kept_one}
+use Rattle.ro_coop.proofs.Settled.{reserved-alike, settled-holds, settled-ranges, settled-lives, settled-peer, settled-none}
 use Rattle.ro_coop.proofs.Stuck.{no-step}
 use Rattle.ro_coop.proofs.Votes.{StandsAt, it_goes, it_waits, served-holds, quiet-holds, over-holds}
 use Rattle.ro_coop.proofs.Begun.{begun-holds}
@@ -393,6 +395,14 @@ module _ (job : Job) (rows : Rows) (free : RaceFree job.program) (lacks : TakesB
       → view_of (ranges_here job (core_behind job rows (opening_core job) journal)) t one.replica ≡ view_of (ranges_here job (core_behind job rows (opening_core job) journal)) t other.replica
   legal-views n e journal legal going t lives stopped =
       views-alike job rows free lacks (core_behind job rows (opening_core job) journal) (steps_from no_steps journal) (still-on (core_behind job rows (opening_core job) journal) (steps_from no_steps journal) (along n e journal legal) going) t lives stopped
+
+  -- and all leave the same of the thread's reservation
+  pub legal-lapse : (n : ℕ) → job.settings.replicas ≡ suc n → (journal : List Entry) → LegalFrom job rows (opening_core job) journal → is_going (core_behind job rows (opening_core job) journal) ≡ true → (core_behind job rows (opening_core job) journal).leases ≡ []
+      → (t : ℕ) → lives_on (core_behind job rows (opening_core job) journal).kernel t ≡ true → ((i : ℕ) (peer : Peer) → slice_get (core_behind job rows (opening_core job) journal).peers i ≡ Some peer → Stopped peer t)
+      → (i j : ℕ) (one other : Peer) → slice_get (core_behind job rows (opening_core job) journal).peers i ≡ Some one → slice_get (core_behind job rows (opening_core job) journal).peers j ≡ Some other
+      → kept_one (one.answered t) (reservation_of (core_behind job rows (opening_core job) journal).kernel.reserved t) ≡ kept_one (other.answered t) (reservation_of (core_behind job rows (opening_core job) journal).kernel.reserved t)
+  legal-lapse n e journal legal going alone t lives stopped =
+      reserved-alike job rows free lacks (core_behind job rows (opening_core job) journal) (steps_from no_steps journal) (still-on (core_behind job rows (opening_core job) journal) (steps_from no_steps journal) (along n e journal legal) going) alone t lives stopped
 
   pub legal-stuck : (n : ℕ) → job.settings.replicas ≡ suc n → (journal : List Entry) → LegalFrom job rows (opening_core job) journal → IsStuck job rows (core_behind job rows (opening_core job) journal)
       → (machine : Machine) → run job.program (opening job.program) (first_of journal) ≡ Some machine → (machine.ended ≡ None) × ((t : ℕ) (after : Machine) → step job.program machine t ≡ Some after → ⊥)

@@ -1,10 +1,10 @@
 -- A legal journal of a cooperative run's rules is a legal journal of this theory.
-use Rattle.std.specs.Prelude.{◌≡◌, ◌≢◌, ◌⊎◌, ℕ, zero, suc, Bool, true, false, ◌&&◌, cond, ◌==◌, List, [], ◌∷◌, ◌++◌, length, map, take, replicate, Option, Some, None, is_some, is_none, slice_get, slice_set}
+use Rattle.std.specs.Prelude.{◌≡◌, ◌≢◌, ◌⊎◌, ℕ, zero, suc, Bool, true, false, ◌&&◌, ◌||◌, not, cond, ◌==◌, List, [], ◌∷◌, ◌++◌, length, map, take, replicate, Option, Some, None, is_some, is_none, slice_get, slice_set}
 use Rattle.std.specs.List.{list_all, filter_map, cons_option}
 use Rattle.std.specs.Option.{option_and_then, option_map, option_map_or}
 use Rattle.std.proofs.Common.{refl, sym, ap, ◌∙◌, subst, inl, inr, ⊎_elim, arith}
-use Rattle.std.proofs.lemmas.Bool.{false≢true, and_parts, ne_eqb}
-use Rattle.std.proofs.lemmas.Option.{option_and_then_some}
+use Rattle.std.proofs.lemmas.Bool.{false≢true, and_parts, and_from, ne_eqb}
+use Rattle.std.proofs.lemmas.Option.{option_and_then_some, slice_get_within}
 use Rattle.ro_event.specs.declared.calls.Call.{Call}
 use Rattle.ro_event.specs.declared.calls.Which.{Which}
 use Rattle.ro_event.specs.declared.calls.Which.TheVariants.{System, Function, Atomic}
@@ -19,7 +19,9 @@ use Rattle.ro_journal.specs.declared.losers.Lost.{Lost}
 use Rattle.ro_journal.specs.declared.Lease.{Lease}
 use Rattle.ro_journal.specs.declared.Entry.{Entry}
 use Rattle.ro_journal.specs.declared.Entry.TheVariants.{Take, Put, Part, Vote, Free, Scrub, End}
+use Rattle.ro_kernel.specs.declared.reservations.Reservation.{Reservation}
 use Rattle.ro_kernel.specs.Kernel.{Setup, Kernel, lives_on, ranges_in, released}
+use Rattle.ro_kernel.specs.Reserved.{reservation_of}
 use Rattle.ro_kernel.proofs.Kept.{IsServed, atomic-served}
 use Rattle.ro_kernel.specs.Serve.{Served, Done, Parked, Blocked, Ends, serve_by, serve_which, serve, is_blocked, is_served, blocks}
 use Rattle.ro_thread.specs.declared.Thread.{Thread}
@@ -50,7 +52,8 @@ use Rattle.ro_coop.specs.Rowless.{rows_for, got_by}
 use Rattle.ro_coop.specs.Sound.{core_behind}
 use Rattle.ro_coop.specs.Runs.{IsExecutionOf}
 use Rattle.ro_coop.proofs.Rowless.{in-front, entry-so}
-use Rattle.ro_coop.proofs.Journal.{legal-sound, legal-views}
+use Rattle.ro_coop.proofs.Ended.{kept_one}
+use Rattle.ro_coop.proofs.Journal.{legal-sound, legal-views, legal-lapse}
 use Rattle.ro_coop.specs.Stuck.{Stopped}
 use Rattle.ro_coop.proofs.Seen.{as-job, seen, as-put, peers-get, peer-parts, gets-same, may-put, put-same, part-same, peer-of, kernel-same, event-same, voted-same, freed-same}
 
@@ -92,6 +95,31 @@ all-shown : (ranges : List Range) (thread : ℕ) (view : View) (replicas : List 
 all-shown ranges thread view [] each = tt
 all-shown ranges thread view (x ∷ replicas) each =
     subst (λ (o : Option View). rules.AreAll view (cons_option o (filter_map (view_of ranges thread) replicas))) (sym (each 0 x refl)) (refl, all-shown ranges thread view replicas (λ n r e. each (suc n) r e))
+
+-- ---- answers
+
+-- a reservation that both leave alike is ended by both or by none
+kept-same : (x : Reservation) (one other : Bool) → kept_one one (Some x) ≡ kept_one other (Some x) → one ≡ other
+kept-same x true true e = refl
+kept-same x false false e = refl
+kept-same x true false e = absurd (let f : None ≡ Some x = e in cc)
+kept-same x false true e = absurd (let f : None ≡ Some x = sym e in cc)
+
+all-as : (told : Bool → Bool) (thread : ℕ) (b : Bool) (sides : List Side) → ((n : ℕ) (side : Side) → slice_get sides n ≡ Some side → side.answered thread ≡ b) → told b ≡ true → list_all (λ (side : Side). told (side.answered thread)) sides ≡ true
+all-as told thread b [] each so = refl
+all-as told thread b (s ∷ sides) each so = and_from _ _ (ap told (each 0 s refl) ∙ so) (all-as told thread b sides (λ n side e. each (suc n) side e) so)
+
+or-right : (a b : Bool) → b ≡ true → (a || b) ≡ true
+or-right true b e = refl
+or-right false b e = e
+
+alike-sides : (thread : ℕ) (sides : List Side) → ((n m : ℕ) (one other : Side) → slice_get sides n ≡ Some one → slice_get sides m ≡ Some other → one.answered thread ≡ other.answered thread) → rules.answered_alike thread sides ≡ true
+alike-sides thread [] same = refl
+alike-sides thread (s ∷ sides) same = by (s.answered thread) refl
+  where
+    by : (b : Bool) → s.answered thread ≡ b → rules.answered_alike thread (s ∷ sides) ≡ true
+    by true is = ap (λ (c : Bool). c || list_all (λ (side : Side). not (side.answered thread)) (s ∷ sides)) (all-as (λ b. b) thread true (s ∷ sides) (λ n side e. same n 0 side s e refl ∙ is) refl)
+    by false is = or-right (list_all (λ (side : Side). side.answered thread) (s ∷ sides)) _ (all-as not thread false (s ∷ sides) (λ n side e. same n 0 side s e refl ∙ is) refl)
 
 -- ---- a call that is served blocks neither in the kernel that serves it
 
@@ -170,7 +198,7 @@ module _ (job : Asked) (core : Run) (as_many : length core.sides ≡ length core
         agreed = λ n peer e.
             let q = peer-parts core n peer (sym (peers-get core.replicas core.sides n) ∙ e) in
             let stopped = get-all (λ (r : Replica). is_some (stop_of r thread)) core.replicas (and_parts _ _ m.may).1 n q.replica q.here in
-            ap (λ (x : Peer). view_of (ranges_here (as-job job) (seen core)) thread x.replica) (sym q.is) ∙ shown-one _ thread m.view core.replicas m.agreed n q.replica q.here stopped;
+            ap (λ (x : Peer). view_of (ranges_here (as-job job) (seen core)) thread x.replica) (sym q.is) ∙ shown-one _ thread m.view core.replicas m.agreed.0 n q.replica q.here stopped;
         event = m.event;
         comes = event-same job core as_many thread ∙ m.comes;
         did_is = m.did_is;
@@ -488,9 +516,9 @@ module _ (job : Asked) (rows : Rows) (free : RaceFree job.program) (range : InRa
         in_rows = λ mutex rank thread e. sound.in_rows mutex rank thread (ap (λ (s : Steps). slice_get (order_of job.program (chosen_of job.program) (OfMutex mutex) (opening job.program) s.first) rank) (steps-same nothing journal) ∙ e);
       }
 
-  -- a vote finds equal views
+  -- a vote finds equal views, and one reservation
   pub views-agree : (thread : ℕ) → may_vote (rules.replay job journal) thread ≡ true → (view : View) × rules.AgreeOn job (rules.replay job journal) thread view
-  views-agree thread may = (first.1.0, all-shown ranges thread first.1.0 last.replicas (λ n r e. same n r e))
+  views-agree thread may = (first.1.0, (all-shown ranges thread first.1.0 last.replicas (λ n r e. same n r e), lapses (reservation_of last.kernel.reserved thread) refl))
     where
       last : Run
       last = rules.replay job journal
@@ -532,13 +560,40 @@ module _ (job : Asked) (rows : Rows) (free : RaceFree job.program) (range : InRa
               let stop = some-from (stop_of r thread) f in
               option_and_then_some (λ (x : Thread). x.stop) (slice_get r.threads thread) stop.0 stop.1 (λ x there g. (x, there, stop.0, g))
 
+      kernels : behind.kernel ≡ last.kernel
+      kernels = ap (λ (c : Core). c.kernel) its-behind.same
+
+      going : (is_none behind.due && is_none behind.ended) ≡ true
+      going = ap (λ (c : Core). is_none c.due && is_none c.ended) its-behind.same ∙ p.going
+
+      lives : lives_on behind.kernel thread ≡ true
+      lives = ap (λ (k : Kernel). lives_on k thread) kernels ∙ p.live
+
+      -- a replica with what it has beside
+      beside : (n : ℕ) (side : Side) → slice_get last.sides n ≡ Some side → (r : Replica) × (slice_get behind.peers n ≡ Some (peer_with r side))
+      beside n side e =
+          let r = get-within last.replicas n (let w = slice_get_within last.sides n side e in let m = many in omega arith) in
+          let q = peer-of job last many thread n r.0 r.1 in
+          (r.0, ap (λ (ps : List Peer). slice_get ps n) peers-are ∙ (q.2 ∙ ap (λ (s : Side). Some (peer_with r.0 s)) (some-injective (sym q.1 ∙ e))))
+
+      -- where the thread has a reservation, either all have answered a call of it or none has
+      answered : (x : Reservation) → reservation_of last.kernel.reserved thread ≡ Some x → (n m : ℕ) (one other : Side) → slice_get last.sides n ≡ Some one → slice_get last.sides m ≡ Some other → one.answered thread ≡ other.answered thread
+      answered x is n m one other e f =
+          let a = beside n one e in
+          let b = beside m other f in
+          kept-same x (one.answered thread) (other.answered thread)
+          (subst (λ (o : Option Reservation). kept_one (one.answered thread) o ≡ kept_one (other.answered thread) o) (ap (λ (k : Kernel). reservation_of k.reserved thread) kernels ∙ is)
+          (legal-lapse (as-job job) rows free (chosen-by-locks job.program) watched count.0 count.1 (map as-put journal) its-legal going (ap (λ (c : Core). c.leases) its-behind.same ∙ p.alone) thread lives all-stopped n m (peer_with a.0 one) (peer_with b.0 other) a.1 b.1))
+
+      lapses : (o : Option Reservation) → reservation_of last.kernel.reserved thread ≡ o → (is_none o || rules.answered_alike thread last.sides) ≡ true
+      lapses None is = refl
+      lapses (Some x) is = alike-sides thread last.sides (answered x is)
+
       same : (n : ℕ) (r : Replica) → slice_get last.replicas n ≡ Some r → view_of ranges thread r ≡ Some first.1.0
       same n r e =
           let one = peer-at n r e in
           let zero = peer-at 0 first.0 first.2 in
-          let kernels : behind.kernel ≡ last.kernel = ap (λ (c : Core). c.kernel) its-behind.same in
-          let equal = legal-views (as-job job) rows free (chosen-by-locks job.program) watched count.0 count.1 (map as-put journal) its-legal
-          (ap (λ (c : Core). is_none c.due && is_none c.ended) its-behind.same ∙ p.going) thread (ap (λ (k : Kernel). lives_on k thread) kernels ∙ p.live) all-stopped n 0 one.0 zero.0 one.2 zero.2 in
+          let equal = legal-views (as-job job) rows free (chosen-by-locks job.program) watched count.0 count.1 (map as-put journal) its-legal going thread lives all-stopped n 0 one.0 zero.0 one.2 zero.2 in
           ap (λ (x : Replica). view_of ranges thread x) (sym one.1)
           ∙ (ap (λ (k : Kernel). view_of (ranges_in (setup_of job.program) k) thread one.0.replica) (sym kernels)
           ∙ (equal

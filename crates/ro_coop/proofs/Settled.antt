@@ -27,7 +27,7 @@ use Rattle.ro_coop.specs.Core.{Job, Core, ranges_here, kernel_for, settled, Step
 use Rattle.ro_coop.specs.Stuck.{Stopped}
 use Rattle.ro_coop.proofs.Ended.{Reservations, kept_one, same-list, still-length, still-get, none-set, ended, coop-one}
 use Rattle.ro_coop.proofs.Tables.{AllCooperative, kernel-in}
-use Rattle.ro_coop.proofs.Lists.{each-back, each-map}
+use Rattle.ro_coop.proofs.Lists.{each-get, each-back, each-map}
 use Rattle.ro_coop.proofs.Holds.{Common, Tied, IsWaiting, AllLent, Going}
 use Rattle.ro_coop.proofs.Alike.{apart}
 
@@ -172,6 +172,13 @@ module _ (job : Job) (rows : Rows) (free : RaceFree job.program) (lacks : TakesB
       sym (still-get r.answered core.kernel.reserved t)
       ∙ (ap (λ (m : Machine). reservation_of m.kernel.reserved t) (sym p.is.machine_is)
       ∙ sym (reserved-along job.program job.chosen t c.machine first.machine b.rest (apart job rows free lacks core s g t lives n r c k p x.0 x.1 x.2 x.3) b.runs b.unserved))
+
+  -- so any two leave the same of the thread's reservation
+  pub reserved-alike : (n m : ℕ) (one other : Peer) → slice_get core.peers n ≡ Some one → slice_get core.peers m ≡ Some other → kept_one (one.answered t) (reservation_of core.kernel.reserved t) ≡ kept_one (other.answered t) (reservation_of core.kernel.reserved t)
+  reserved-alike n m one other e f =
+      let a = each-get _ core.peers g.copies g.each n one e in
+      let b = each-get _ core.peers g.copies g.each m other f in
+      as-first n one a.0 e a.1 a.2 ∙ sym (as-first m other b.0 f b.1 b.2)
 
   zeroth : (r : Peer) × (slice_get core.peers 0 ≡ Some r) × Tied job g.common core.kernel core.output core.blocked s.taken 0 r first.some_copy.0
   zeroth = each-back _ core.peers g.copies g.each 0 first.some_copy.0 first.some_copy.1

@@ -20,7 +20,7 @@ use Rattle.ro_peer.specs.Peers.{Peer}
 use Rattle.ro_legal.specs.Sides.{is_ahead}
 use Rattle.ro_legal.specs.Core.{Job, Core, is_going, is_idle, is_out, is_lendable, may_vote, may_free, views_of}
 use Rattle.ro_legal.specs.Legal.{MayTake, is_stuck, since_in}
-use Rattle.ro_legal.specs.Cooperative.{lease_run, lease_gets, arrival, parking_of, after, MayPut, MayPart, AreAll, MayVote, MayEnd, due, alone, voted_event, IsAllowed, LegalFrom, replay_from}
+use Rattle.ro_legal.specs.Cooperative.{lease_run, lease_gets, arrival, parking_of, after, MayPut, MayPart, AreAll, lapses_alike, MayVote, MayEnd, due, alone, voted_event, IsAllowed, LegalFrom, replay_from}
 use Rattle.ro_coop.proofs.Checks.{test_event, none-of, event-of}
 
 abbrev pub test_take : Job → Core → Lease → Bool
@@ -62,7 +62,7 @@ is_count count (Some since) = since == count
 
 abbrev pub test_vote : Job → Core → (thread count won : ℕ) → Lost → Did → Bool
 test_vote job core thread count won lost did =
-    may_vote core thread && are_one (views_of job core thread) && (won == 0) && is_nobody lost && is_count count (since_in core thread 0)
+    may_vote core thread && (are_one (views_of job core thread) && lapses_alike core thread) && (won == 0) && is_nobody lost && is_count count (since_in core thread 0)
     && test_event did (voted_event job core thread) && nat_le (core.steps + event_steps did) job.settings.limit
 
 abbrev pub is_due : Option How → How → Bool
@@ -113,7 +113,7 @@ all-of : (view : View) (views : List View) → all_are view views ≡ true → A
 all-of view [] e = tt
 all-of view (other ∷ views) e = let a = and_parts _ _ e in (view-true other view a.0, all-of view views a.1)
 
-one-of : (views : List View) → are_one views ≡ true → (view : View) × AreAll view views
+pub one-of : (views : List View) → are_one views ≡ true → (view : View) × AreAll view views
 one-of [] e = absurd (false≢true e)
 one-of (view ∷ views) e = (view, all-of view (view ∷ views) e)
 
@@ -138,8 +138,8 @@ count-of count (Some since) e = ap Some (eqb-true since count e)
 vote-of : (job : Job) (core : Core) (thread count won : ℕ) (lost : Lost) (did : Did) → test_vote job core thread count won lost did ≡ true → MayVote job core thread count won lost did
 vote-of job core thread count won lost did e =
     let a = and_parts _ _ e in let b = and_parts _ _ a.0 in let c = and_parts _ _ b.0 in let d = and_parts _ _ c.0 in let f = and_parts _ _ d.0 in let g = and_parts _ _ f.0 in
-    let v = one-of (views_of job core thread) g.1 in let w = event-of did (voted_event job core thread) b.1 in
-    record { may = g.0; view = v.0; agreed = v.1; first = eqb-true _ _ f.1; none_lost = nobody-of lost d.1; count_is = count-of count (since_in core thread 0) c.1; event = w.0; comes = w.1; did_is = w.2; fits = leb-true _ _ a.1 }
+    let alike = and_parts _ _ g.1 in let v = one-of (views_of job core thread) alike.0 in let w = event-of did (voted_event job core thread) b.1 in
+    record { may = g.0; view = v.0; agreed = (v.1, alike.1); first = eqb-true _ _ f.1; none_lost = nobody-of lost d.1; count_is = count-of count (since_in core thread 0) c.1; event = w.0; comes = w.1; did_is = w.2; fits = leb-true _ _ a.1 }
 
 due-of : (o : Option How) (how : How) → is_due o how ≡ true → o ≡ Some how
 due-of (Some (ExitHow status)) (ExitHow other) e = ap (λ (n : ℕ). Some (ExitHow n)) (eqb-true status other e)

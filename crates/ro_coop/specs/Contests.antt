@@ -1,6 +1,6 @@
 -- Guests whose threads contend for mutexes, and journals of theirs by the rules of a cooperative run.
 use Rattle.std.specs.Prelude.{ℕ, Bool, true, false, ◌==◌, if◌then◌else◌, List, [], ◌∷◌, ◌++◌, map, Option, Some, None, slice_get}
-use Rattle.std.specs.Option.{option_map_or}
+use Rattle.std.specs.Option.{option_and_then, option_map_or}
 use Rattle.ro_settings.specs.declared.Mode.TheVariants.{Cooperative}
 use Rattle.ro_event.specs.declared.table.CallTable.{CallTable}
 use Rattle.ro_journal.specs.declared.Did.TheVariants.{Served as WasServed, Parked as WasParked}
@@ -13,8 +13,11 @@ use Rattle.ro_plain.specs.Machine.{Program}
 use Rattle.ro_simulation.specs.Guests.{guest}
 use Rattle.ro_orders.specs.Copies.{Rows}
 use Rattle.ro_peer.specs.Peers.{mutex_in}
+use Rattle.ro_replica.specs.Replica.{changed_at}
 use Rattle.ro_legal.specs.Sides.{Side, threads_of}
 use Rattle.ro_legal.specs.Core.{Job, Core, is_given_up}
+use Rattle.ro_legal.specs.Event.{Event}
+use Rattle.ro_legal.specs.Cooperative.{voted_event}
 use Rattle.ro_coop.specs.Guests.{take_by, put_by, vote_on, both_leases, then_served}
 
 -- the addresses of create, exit, lock and unlock
@@ -178,3 +181,26 @@ byte_front = three_leases 0 5 ++ vote_on 0 5 WasServed ∷ take_by 2 1 ∷ put_b
 
 abbrev pub byte_journal : List Entry
 byte_journal = byte_front ++ End Differ ∷ []
+
+-- ---- a reservation
+
+-- Thread 0 locks a mutex, loads a word that it reserves, unlocks the mutex, stores into the word if it still has it reserved, and exits
+-- with what that answers.
+abbrev pub reserving_guest : Program
+reserving_guest = guest (contest_table None None (Some 0x1007C) (Some 0x10080)) true 140
+    (0x000101B7 ∷ 0x08418513 ∷ 0x020000EF ∷ 0x08818413 ∷ 0x100425AF ∷ 0x08418513 ∷ 0x014000EF ∷ 0x18B4252F ∷ 0x05D00893 ∷ 0x00000073 ∷ 0x00008067 ∷ 0x00008067 ∷ 0x00000000 ∷ 0x00000000 ∷ [])
+
+abbrev pub reserving_job : Job
+reserving_job = contest_job reserving_guest 3
+
+-- each replica answers the unlock, and comes to the store
+abbrev pub reserving_front : List Entry
+reserving_front = three_leases 0 3 ++ vote_on 0 3 WasServed ∷ three_leases 0 1 ++ vote_on 0 1 WasServed ∷ three_leases 0 3
+
+-- the same core, but that replica 0 came there without having answered a call
+abbrev pub with_none_answered : Core → Core
+with_none_answered core = record core { sides = changed_at (λ (side : Side). record side { answered = λ thread. false }) core.sides 0 }
+
+-- what the event of a vote on thread 0 answers
+abbrev pub store_answers : Core → Option ℕ
+store_answers core = option_and_then (λ (event : Event). event.effect.answer) (voted_event reserving_job core 0)

@@ -1,5 +1,8 @@
 //! Rows of the rules of a cooperative run (`ro_legal`): whole journals of two and three replicas.
-ghost use Rattle.std.specs.Prelude.{◌≡◌, List, [], ◌∷◌, ◌++◌, length, replicate, true, false, Some, is_some};
+ghost use Rattle.std.specs.Prelude.{◌≡◌, ℕ, List, [], ◌∷◌, ◌++◌, length, replicate, true, false, Some, is_some};
+ghost use Rattle.ro_event.specs.Views.{View};
+ghost use Rattle.ro_journal.specs.declared.Did.{Did};
+ghost use Rattle.ro_journal.specs.declared.losers.Lost.{Lost};
 ghost use Rattle.ro_journal.specs.declared.How.TheVariants.{Exit as ExitHow, Deadlock, Differ};
 ghost use Rattle.ro_plain.specs.Order.{RaceFree};
 ghost use Rattle.ro_settings.specs.Ranges.{InRange};
@@ -7,11 +10,11 @@ ghost use Rattle.ro_orders.specs.Turns.{TakesByLocks};
 ghost use Rattle.ro_orders.specs.Choices.{in_table, no_mutex, chosen_of};
 ghost use Rattle.ro_orders.specs.Guests.{two_locks, two_trylocks, two_waits};
 ghost use Rattle.ro_peer.specs.Gets.{InRows};
-ghost use Rattle.ro_legal.specs.Core.{is_lendable, may_vote};
+ghost use Rattle.ro_legal.specs.Core.{is_lendable, may_vote, views_of};
 ghost use Rattle.ro_legal.specs.Legal.{is_stuck};
-ghost use Rattle.ro_legal.specs.Cooperative.{opening_core, lease_run, EndsVote, IsAllowed, Legal, replay, gets_from};
+ghost use Rattle.ro_legal.specs.Cooperative.{opening_core, lease_run, AgreeOn, EndsVote, MayVote, IsAllowed, Legal, replay, gets_from};
 ghost use Rattle.ro_coop.specs.Core.{first_of};
-ghost use Rattle.ro_coop.specs.Contests.{lease_by, part_by, writers_guest, writers_job, page_of_threads, writers_asked, writers_got, writers_parted, writers_wrote, writers_freed, writers_freed_too, writers_journal, looking_job, looking_back, looking_asked, looking_got, gives_up, contest_shown, crossing_guest, crossing_job, crossing_again, crossing_stuck, crossing_journal, waiting_guest, waiting_job, waiting_stuck, waiting_journal, byte_guest, byte_job, byte_front, byte_journal};
+ghost use Rattle.ro_coop.specs.Contests.{lease_by, part_by, writers_guest, writers_job, page_of_threads, writers_asked, writers_got, writers_parted, writers_wrote, writers_freed, writers_freed_too, writers_journal, looking_job, looking_back, looking_asked, looking_got, gives_up, contest_shown, crossing_guest, crossing_job, crossing_again, crossing_stuck, crossing_journal, waiting_guest, waiting_job, waiting_stuck, waiting_journal, byte_guest, byte_job, byte_front, byte_journal, reserving_job, reserving_front, with_none_answered, store_answers};
 
 /// A row: a journal of two replicas by the rules of a cooperative run. Thread 0's first lock is voted, and brings the mutex into the
 /// table. Later thread 1 comes back at the free mutex in replica 1, and gets it in replica 0; thread 0 comes back at its lock in both,
@@ -110,6 +113,22 @@ pub fn three_views_row()
     ensures may { may_vote (replay byte_job byte_front) 0 ≡ true }
     ensures differs { EndsVote byte_job (replay byte_job byte_front) 0 Differ }
     ensures races { RaceFree byte_guest → ⊥ }
+{}
+
+/// A row: three replicas of a guest that reserves a word, unlocks a mutex, and stores into the word if it still has it reserved. Each
+/// replica answers the unlock by itself, which ends the reservation, so that the store fails. Where replica 0 came to the store
+/// without having answered it, as a fault may make it, all views are the same as before, and by that replica's answers the store
+/// would succeed. There is no vote then, and the journal may end by a difference in its place.
+pub fn reserving_row()
+    ensures legal { Legal reserving_job reserving_front }
+    ensures may { may_vote (replay reserving_job reserving_front) 0 ≡ true }
+    ensures agree { (view : View) × AgreeOn reserving_job (replay reserving_job reserving_front) 0 view }
+    ensures fails { store_answers (replay reserving_job reserving_front) ≡ Some 1 }
+    ensures may_too { may_vote (with_none_answered (replay reserving_job reserving_front)) 0 ≡ true }
+    ensures same_views { views_of reserving_job (with_none_answered (replay reserving_job reserving_front)) 0 ≡ views_of reserving_job (replay reserving_job reserving_front) 0 }
+    ensures would_succeed { store_answers (with_none_answered (replay reserving_job reserving_front)) ≡ Some 0 }
+    ensures differs { EndsVote reserving_job (with_none_answered (replay reserving_job reserving_front)) 0 Differ }
+    ensures no_vote { (count won : ℕ) (lost : Lost) (did : Did) → MayVote reserving_job (with_none_answered (replay reserving_job reserving_front)) 0 count won lost did → ⊥ }
 {}
 
 /// A row: of a program whose table of calls has a trylock or a wait no mutex is cooperative; of one with locks in their place all

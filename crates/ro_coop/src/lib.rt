@@ -22,7 +22,8 @@ ghost use Rattle.ro_coop.specs.Sound.{core_behind, IsSound};
 ghost use Rattle.ro_coop.specs.Stuck.{Stopped, IsStuck};
 
 pub use contests::{
-    chosen_row, crossing_row, looking_row, parked_row, rules_row, three_views_row, waiting_row,
+    chosen_row, crossing_row, looking_row, parked_row, reserving_row, rules_row, three_views_row,
+    waiting_row,
 };
 pub use rows::{letters_row, reservation_row};
 pub use runs::{

@@ -1,6 +1,6 @@
 -- Peers that are all in their seats.
-use Rattle.std.proofs.Common.{◌≡◌, ℕ, zero, suc, true, false, true≢false, not, List, [], ◌∷◌, length, Option, Some, None, refl, sym, ap, ◌∙◌, subst, arith}
-use Rattle.std.specs.Prelude.{◌==◌, is_some, slice_get, slice_index_or}
+use Rattle.std.proofs.Common.{◌≡◌, ℕ, zero, suc, Bool, true, false, true≢false, not, List, [], ◌∷◌, length, Option, Some, None, refl, sym, ap, ap₂, ◌∙◌, subst, arith}
+use Rattle.std.specs.Prelude.{◌==◌, ◌&&◌, ◌||◌, is_some, slice_get, slice_index_or}
 use Rattle.std.specs.List.{list_all, list_any}
 use Rattle.std.specs.Option.{option_map_or}
 use Rattle.std.proofs.lemmas.Bool.{and_parts, and_from}
@@ -12,9 +12,10 @@ use Rattle.ro_peer.specs.Peers.{Peer}
 use Rattle.ro_plain.proofs.Calls.{some-injective}
 use Rattle.ro_legal.specs.Sides.{Side}
 use Rattle.ro_legal.specs.Core.{Job, Core, is_home}
+use Rattle.ro_legal.specs.Cooperative.{answered_alike}
 use Rattle.ro_coop_core.specs.declared.seats.Partner.{Partner}
 use Rattle.ro_coop_core.specs.declared.seats.Seat.{Seat}
-use Rattle.ro_coop_core.specs.Seats.{Homed, IsSeated, AreSeated, IsHomeSeat, AreHome, seat_stopped}
+use Rattle.ro_coop_core.specs.Seats.{Homed, IsSeated, AreSeated, IsHomeSeat, AreHome, seat_answered, seat_stopped}
 use Rattle.ro_coop_core.specs.Amid.{first_answered}
 
 -- a seat among others, with its replica and what that has beside
@@ -118,3 +119,18 @@ answered-home job kernel thread [] [] [] home = refl
 answered-home job kernel thread (r ∷ replicas) (s ∷ sides) (t ∷ seats) home =
     ap (λ (o : Option Partner). option_map_or (λ partner. slice_index_or partner.peer.answered thread false) o false) home.0.home ∙ ap (λ (p : Peer). p.answered thread) home.0.is.peer_is
 answered-home job kernel thread replicas sides seats home = absurd home
+
+-- whether what is told of each peer's answers is so of all of them
+all-answered-home : (told : Bool → Bool) (job : Job) (kernel : Kernel) (thread : ℕ) (replicas : List Replica) (sides : List Side) (seats : List Seat) → AreHome job kernel replicas sides seats → list_all (λ seat. told (seat_answered thread seat)) seats ≡ list_all (λ (side : Side). told (side.answered thread)) sides
+all-answered-home told job kernel thread [] [] [] home = refl
+all-answered-home told job kernel thread (r ∷ replicas) (s ∷ sides) (t ∷ seats) home =
+    ap₂ (λ a b. a && b) (ap told one) (all-answered-home told job kernel thread replicas sides seats home.1)
+  where
+    one : seat_answered thread t ≡ s.answered thread
+    one = ap (λ (o : Option Partner). option_map_or (λ partner. slice_index_or partner.peer.answered thread false) o false) home.0.home ∙ ap (λ (p : Peer). p.answered thread) home.0.is.peer_is
+all-answered-home told job kernel thread replicas sides seats home = absurd home
+
+-- all answered a call, or none did
+pub alike-home : (job : Job) (kernel : Kernel) (thread : ℕ) (replicas : List Replica) (sides : List Side) (seats : List Seat) → AreHome job kernel replicas sides seats → (list_all (seat_answered thread) seats || list_all (λ seat. not (seat_answered thread seat)) seats) ≡ answered_alike thread sides
+alike-home job kernel thread replicas sides seats home =
+    ap₂ (λ a b. a || b) (all-answered-home (λ b. b) job kernel thread replicas sides seats home) (all-answered-home not job kernel thread replicas sides seats home)

@@ -1,18 +1,22 @@
 -- The views of a vote, in the fields of a run.
-use Rattle.std.proofs.Common.{Result, Ok, Err, ◌≡◌, ◌↔◌, ℕ, Bool, true, List, [], ◌∷◌, length, None, refl, sym, ap, ◌∙◌, subst}
-use Rattle.std.specs.Prelude.{IfOk, IsTrue}
+use Rattle.std.proofs.Common.{Result, Ok, Err, ◌≡◌, ◌↔◌, ℕ, Bool, true, false, true≢false, not, List, [], ◌∷◌, length, Option, Some, None, refl, sym, ap, ◌∙◌, subst}
+use Rattle.std.specs.Prelude.{IfOk, IsTrue, ◌||◌, is_none, is_some}
 use Rattle.std.specs.List.{list_all}
 use Rattle.std.proofs.lemmas.Bool.{and_parts, and_from}
 use Rattle.ro_event.specs.declared.stops.Stop.TheVariants.{Watchdog}
 use Rattle.ro_event.specs.Views.{View, same_view}
 use Rattle.ro_event.proofs.Same.{view-true, view-same}
-use Rattle.ro_legal.specs.Core.{may_vote}
-use Rattle.ro_legal.specs.Cooperative.{AreAll}
+use Rattle.ro_kernel.specs.declared.reservations.Reservation.{Reservation}
+use Rattle.ro_kernel.specs.Kernel.{Kernel}
+use Rattle.ro_kernel.specs.Reserved.{reservation_of}
+use Rattle.ro_legal.specs.Core.{may_vote, views_of}
+use Rattle.ro_legal.specs.Cooperative.{AreAll, AgreeOn, lapses_alike}
 use Rattle.ro_legal.proofs.Ordered.{vote-parts}
-use Rattle.ro_coop_core.specs.Seats.{AreHome, seat_stopped}
+use Rattle.ro_coop_core.specs.Seats.{AreHome, seat_answered, seat_stopped}
 use Rattle.ro_coop_core.specs.Fields.{Fields, core_in, Holds}
+use Rattle.ro_coop_core.specs.Runs.{IsAgreed}
 use Rattle.ro_coop_core.proofs.Held.{goes, no-outcome, no-views}
-use Rattle.ro_coop_core.proofs.AtHome.{stopped-home}
+use Rattle.ro_coop_core.proofs.AtHome.{stopped-home, alike-home}
 use Rattle.ro_coop_core.proofs.Makes.{ready-home}
 
 -- ---- views that are all one
@@ -76,6 +80,39 @@ module _ (f : Fields) (h : Holds f) (thread : ℕ) (may : may_vote (core_in f) t
 
   pub view-count : length f.views ≡ length f.seats
   view-count = h.views_count view-still
+
+  -- whether the replicas leave the same of the thread's reservation, where they answered alike
+  pub lapses-told : (told : Bool) → told ≡ (list_all (seat_answered thread) f.seats || list_all (λ seat. not (seat_answered thread seat)) f.seats) → told ≡ true → told ≡ lapses_alike (core_in f) thread
+  lapses-told told is all = by (is_none (reservation_of (core_in f).kernel.reserved thread)) _ (is ∙ alike-home f.job (core_in f).kernel thread (core_in f).replicas (core_in f).sides f.seats view-home)
+    where
+      by : (none alike : Bool) → told ≡ alike → told ≡ (none || alike)
+      by true alike e = all
+      by false alike e = e
+
+  -- and where they did not
+  pub lapses-untold : (told reserving : Bool) → told ≡ (list_all (seat_answered thread) f.seats || list_all (λ seat. not (seat_answered thread seat)) f.seats) → told ≡ false → reserving ≡ is_some (reservation_of f.kernel.kernel.reserved thread) → not reserving ≡ lapses_alike (core_in f) thread
+  lapses-untold told reserving is unlike reserved =
+      by (reservation_of (core_in f).kernel.reserved thread) _ (sym unlike ∙ (is ∙ alike-home f.job (core_in f).kernel thread (core_in f).replicas (core_in f).sides f.seats view-home)) (reserved ∙ ap (λ (k : Kernel). is_some (reservation_of k.reserved thread)) h.kernel_is)
+    where
+      by : (o : Option Reservation) (alike : Bool) → false ≡ alike → reserving ≡ is_some o → not reserving ≡ (is_none o || alike)
+      by None alike e k = ap not k
+      by (Some r) alike e k = ap not k ∙ e
+
+  -- replicas that agree, with their views in their places
+  pub shown-agreed : (views : List View) → length views ≡ length f.views → views ≡ views_of f.job (core_in f) thread → ((view : View) × AreAll view views) × IsTrue (lapses_alike (core_in f) thread) → (view : View) × IsAgreed (record f { views = views }) thread view
+  shown-agreed views count shown all = (
+    all.0.0,
+    record {
+      holds = viewed-holds f views h view-still count;
+      may = may;
+      views_are = shown;
+      agreed = (subst (AreAll all.0.0) shown all.0.1, all.1);
+    },
+  )
+
+  -- and some that don't
+  pub shown-unlike : (views : List View) (told : Bool) → views ≡ views_of f.job (core_in f) thread → IsTrue told ↔ (((view : View) × AreAll view views) × IsTrue (lapses_alike (core_in f) thread)) → told ≡ false → (view : View) → AgreeOn f.job (core_in f) thread view → ⊥
+  shown-unlike views told shown is unlike view agree = true≢false (sym (is.1 ((view, subst (AreAll view) (sym shown) agree.0), agree.1)) ∙ unlike)
 
 -- what holds anyway holds of what a call answered
 pub always-on-ok : {X E : Type 0} (r : Result X E) (P : X → Type 0) → ((x : X) → P x) → IfOk r P

@@ -101,14 +101,14 @@ module _ (f : Fields) (thread : ℕ) (view : View) (v : IsAgreed f thread view) 
 
   -- the first view, as any other
   pub hold-first : (w : View) → w ≡ get_or f.views 0 w → w ≡ view
-  hold-first w is = first-of view (views_of f.job (core_in f) thread) w v.agreed (sym (ap (λ (vs : List View). slice_get vs 0) v.views_are) ∙ slice_get-get_or f.views 0 w hold-within ∙ ap (λ (x : View). Some x) (sym is))
+  hold-first w is = first-of view (views_of f.job (core_in f) thread) w v.agreed.0 (sym (ap (λ (vs : List View). slice_get vs 0) v.views_are) ∙ slice_get-get_or f.views 0 w hold-within ∙ ap (λ (x : View). Some x) (sym is))
 
   pub hold-there : slice_get f.views 0 ≡ Some view
   hold-there = by (slice_get f.views 0) refl
     where
       by : (o : Option View) → slice_get f.views 0 ≡ o → slice_get f.views 0 ≡ Some view
       by None e = absurd (let g : None ≡ Some (get_or f.views 0 view) = sym e ∙ slice_get-get_or f.views 0 view hold-within in cc)
-      by (Some w) e = e ∙ ap (λ (x : View). Some x) (first-of view (views_of f.job (core_in f) thread) w v.agreed (sym (ap (λ (vs : List View). slice_get vs 0) v.views_are) ∙ e))
+      by (Some w) e = e ∙ ap (λ (x : View). Some x) (first-of view (views_of f.job (core_in f) thread) w v.agreed.0 (sym (ap (λ (vs : List View). slice_get vs 0) v.views_are) ∙ e))
 
   same-views : views_of f.job (settled (core_in f) thread) thread ≡ views_of f.job (core_in f) thread
   same-views = for-either (core_in f) thread (λ k. filter_map (view_of (ranges_in (setup_of f.job.program) k) thread) (core_in f).replicas ≡ views_of f.job (core_in f) thread) refl refl

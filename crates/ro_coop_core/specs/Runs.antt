@@ -53,7 +53,7 @@ pub record LastWrote (f : Fields) (before bytes : List ℕ) : Type 0 where
   pub wrote : (core_in f).wrote ≡ length bytes
   pub goes_on : 0 < length bytes → is_going (core_in f) ≡ true
 
--- a vote on the thread on which the views agree, and these are in their places
+-- a vote on the thread on which the replicas agree, and their views are in their places
 pub record IsAgreed (f : Fields) (thread : ℕ) (view : View) : Type 0 where
   pub holds : Holds f
   pub may : may_vote (core_in f) thread ≡ true

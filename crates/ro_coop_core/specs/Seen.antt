@@ -95,7 +95,7 @@ pub record MayReturn (run : RunOf) (driver : ℕ) (partner : Partner) (count : �
 abbrev pub ReturnIs : RunOf → RunOf → (driver count : ℕ) → Came → Type 0
 ReturnIs old new driver count came = (lease : Lease) → lease_of (state old) driver ≡ Some lease → Appends old new (return_of lease count came)
 
--- the journal ended where these views differed
+-- the journal ended where these were the views, and the replicas did not agree
 pub record ShowsViews (job : Job) (journal : List Entry) (views : List View) : Type 0 where
   pub before : List Entry
   pub journal_is : journal ≡ before ++ End Differ ∷ []
@@ -104,6 +104,6 @@ pub record ShowsViews (job : Job) (journal : List Entry) (views : List View) : T
   pub differ : EndsVote job (replay job before) thread Differ
   pub views_are : views ≡ views_of job (replay job before) thread
 
--- the views of a vote on which they differed are kept
+-- the views of a vote on which the replicas differed are kept
 abbrev pub KeepsViews : Job → List Entry → List View → Type 0
 KeepsViews job journal views = outcome_of journal ≡ Some Differ → ShowsViews job journal views

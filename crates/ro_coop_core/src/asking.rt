@@ -12,7 +12,6 @@ ghost use Rattle.ro_coop_core.specs.Runs.{fields_of, job_of, state_of, seen, IsA
 
 use crate::cores::Core;
 use crate::seats::show_all;
-use crate::voting::are_same;
 use ro_journal::{How, Lease};
 use ro_kernel::Kernel;
 use ro_legal::{Parking, has_lease};
@@ -39,8 +38,8 @@ impl Core {
         replica < self.settings.replicas && self.is_lendable(replica, thread)
     }
 
-    /// The end that would come in the place of a vote on a thread, if one would: that of views that differ, or of the limit of
-    /// steps.
+    /// The end that would come in the place of a vote on a thread, if one would: that of replicas that don't agree on it, or of the
+    /// limit of steps.
     pub fn vote_end(&mut self, thread: u32) -> Option<How>
         requires holds { Holds (fields_of self.old) }
         requires may { may_vote (state_of self.old) thread ≡ true }
@@ -49,13 +48,13 @@ impl Core {
         ensures end { (how : HowSeen) → (result ≡ Some how) ↔ EndsVote (job_of self.old) (state_of self.old) thread how }
     {
         show_all(self.seats.as_slice(), thread, self.views.as_mut_slice());
-        if are_same(self.views.as_slice()) {
+        if self.agree(thread) {
             return self.agreed_end(thread);
         }
         Some(How::Differ)
     }
 
-    // The end that would come in the place of a vote on which the views agree, if one would: that of the limit of steps.
+    // The end that would come in the place of a vote on which the replicas agree, if one would: that of the limit of steps.
     fn agreed_end(&mut self, thread: u32) -> Option<How>
         requires agreed { (view : ViewSeen) × IsAgreed (fields_of self.old) thread view }
         ensures same { self.new ≡ self.old }

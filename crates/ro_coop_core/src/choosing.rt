@@ -4,7 +4,7 @@ ghost use Rattle.std.specs.List.{list_all};
 ghost use Rattle.ro_legal.specs.Sides.{Side, is_ahead};
 ghost use Rattle.ro_legal.specs.Core.{is_going, nothing_lent, is_home, is_awake, is_lendable, is_parked, is_barred, is_kept, may_vote, may_free};
 ghost use Rattle.ro_legal.specs.Legal.{is_stuck};
-ghost use Rattle.ro_legal.specs.Action.{lowest_below, threads_made, lend_next, turn_next, turn_of, is_urgent, outwaits, most_urgent_below, urgent_next, first_action, next_action as next};
+ghost use Rattle.ro_legal.specs.Action.{lowest_below, threads_made, lend_next, turn_next, turn_of, overdue_and, is_urgent, outwaits, most_urgent_below, urgent_next, longest_below, first_freed, first_action, next_action as next};
 ghost use Rattle.ro_coop_core.specs.Seats.{KnowsParked, seat_stopped};
 ghost use Rattle.ro_coop_core.specs.Fields.{Holds};
 ghost use Rattle.ro_coop_core.specs.Numbers.{HasMutexes, HasRank};
@@ -18,8 +18,9 @@ use ro_legal::{Action, Parking};
 use ro_peer::Mutexes;
 
 impl Core {
-    /// What comes next: an end that is due; else, where nothing is lent, the lowest thread is freed; else the thread that has
-    /// waited too long has its turn; else the lowest thread is voted on, or the lowest of the lowest replica is lent.
+    /// What comes next: an end that is due; else, where nothing is lent, a thread is freed; else one has its turn that has waited
+    /// too long; else the lowest thread is voted on, or the lowest of the lowest replica is lent. Of those that can be freed the
+    /// lowest is, unless one has waited too long: then the one that has waited longest.
     pub fn next_action(&self) -> Action
         requires holds { Holds (fields_of self.now) }
         ensures next { result ≡ next (job_of self.now) (state_of self.now) }
@@ -42,7 +43,7 @@ impl Core {
         requires holds { Holds (fields_of self.now) }
         ensures { result ≡ first_action (job_of self.now) (state_of self.now) }
     {
-        if let Some(thread) = self.lowest_to_free() {
+        if let Some(thread) = self.first_to_free() {
             return Some(Action::Free(thread));
         }
         match self.urgent_next() {
@@ -125,6 +126,39 @@ impl Core {
         }
     }
 
+    // Of the threads that can be freed the one that has waited too long, and longest, else the lowest.
+    fn first_to_free(&self) -> Option<u32>
+        requires holds { Holds (fields_of self.now) }
+        ensures { result ≡ first_freed (job_of self.now) (state_of self.now) }
+    {
+        let lowest = self.lowest_to_free()?;
+        Some(self.longest_to_free().unwrap_or(lowest))
+    }
+
+    // Of those that can be freed and have waited too long the one that has waited longest, and of several the lowest.
+    fn longest_to_free(&self) -> Option<u32>
+        requires holds { Holds (fields_of self.now) }
+        ensures { result ≡ longest_below (state_of self.now) (may_free (job_of self.now) (state_of self.now)) (threads_made (state_of self.now)) }
+    {
+        let mut longest = None;
+        for thread in 0..self.kernel.made() {
+            if self.is_due_free(thread) && self.outwaits(thread, longest) {
+                longest = Some(thread);
+            }
+        }
+        longest
+    }
+
+    // Whether a thread has waited too long, and can be freed.
+    fn is_due_free(&self, thread: u32) -> bool
+        requires holds { Holds (fields_of self.now) }
+        requires thread { thread < 16 }
+        ensures { result ≡ overdue_and (state_of self.now) (may_free (job_of self.now) (state_of self.now)) thread }
+    {
+        self.waits.is_overdue(thread) && self.may_free(thread)
+    }
+
+    // The lowest that can be freed.
     fn lowest_to_free(&self) -> Option<u32>
         requires holds { Holds (fields_of self.now) }
         ensures { result ≡ lowest_below (threads_made (state_of self.now)) (may_free (job_of self.now) (state_of self.now)) }

@@ -1,5 +1,5 @@
 //! The seats of the peers, each empty while its peer is lent, and what is known of it meanwhile.
-ghost use Rattle.std.specs.Prelude.{◌≡◌, ◌∷◌, ◌++◌, [], ◌<◌, ◌≤◌, ◌+◌, ◌^◌, ℕ, List, IsSome, OnOk, None, Some, true, length, map, slice_index_or, slice_set, vec_len, vec_capacity};
+ghost use Rattle.std.specs.Prelude.{◌≡◌, ◌∷◌, ◌++◌, ◌||◌, [], ◌<◌, ◌≤◌, ◌+◌, ◌^◌, ℕ, List, IsSome, OnOk, None, Some, true, length, map, not, slice_index_or, slice_set, vec_len, vec_capacity};
 ghost use Rattle.std.specs.List.{list_all, filter_map};
 ghost use Rattle.ro_region.specs.Permission.{with_range};
 ghost use Rattle.ro_kernel.specs.Kernel.{Kernel as KernelSeen, ranges_in};
@@ -304,6 +304,25 @@ pub(crate) fn show_all(seats: &[Seat], thread: u32, views: &mut [View])
     };
     seat.show(thread, view);
     show_all(other_seats, thread, other_views);
+}
+
+/// Whether all peers answered a call of a thread since the kernel last served one, or none did. Each is at home.
+pub(crate) fn have_answered_alike(seats: &[Seat], thread: u32) -> bool
+    ensures { result ≡ (list_all (seat_answered thread) seats.now || list_all (λ seat. not (seat_answered thread seat)) seats.now) }
+{
+    have_all_answered(seats, thread) || has_none_answered(seats, thread)
+}
+
+fn have_all_answered(seats: &[Seat], thread: u32) -> bool
+    ensures { result ≡ list_all (seat_answered thread) seats.now }
+{
+    seats.iter().all(|seat| seat.has_answered(thread))
+}
+
+fn has_none_answered(seats: &[Seat], thread: u32) -> bool
+    ensures { result ≡ list_all (λ seat. not (seat_answered thread seat)) seats.now }
+{
+    seats.iter().all(|seat| !seat.has_answered(thread))
 }
 
 /// Makes sure that each peer can be given an event with no more memory. Where there is none, the peers are as they were.

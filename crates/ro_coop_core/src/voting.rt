@@ -1,22 +1,23 @@
 //! Votes, and the calls that are served after one.
-ghost use Rattle.std.specs.Prelude.{◌≡◌, ◌⊎◌, ◌<◌, ◌≤◌, ◌∷◌, ◌++◌, ◌↔◌, IsTrue, ℕ, List, [], Some, None, true, false, IfOk, IfSome, OnErr, OnOk, length, slice_get};
+ghost use Rattle.std.specs.Prelude.{◌≡◌, ◌⊎◌, ◌<◌, ◌≤◌, ◌∷◌, ◌++◌, ◌↔◌, IsTrue, ℕ, List, [], Some, None, true, false, is_some, IfOk, IfSome, OnErr, OnOk, length, slice_get};
 ghost use Rattle.std.specs.List.{list_all};
 ghost use Rattle.std.specs.Option.{option_and_then};
 ghost use Rattle.ro_event.specs.Views.{View as ViewSeen, same_view};
 ghost use Rattle.ro_journal.specs.declared.Entry.TheVariants.{End};
 ghost use Rattle.ro_journal.specs.declared.How.TheVariants.{Differ, Limit};
 ghost use Rattle.ro_kernel.specs.Kernel.{lives_on};
+ghost use Rattle.ro_kernel.specs.Reserved.{reservation_of};
 ghost use Rattle.ro_legal.specs.Core.{may_vote, may_free, views_of};
-ghost use Rattle.ro_legal.specs.Cooperative.{IsAllowed, AreAll, AgreeOn, PassesLimit};
+ghost use Rattle.ro_legal.specs.Cooperative.{IsAllowed, AreAll, AgreeOn, PassesLimit, lapses_alike};
 ghost use Rattle.ro_legal.specs.Choices.{DecidesVote, DecidesFree};
-ghost use Rattle.ro_coop_core.specs.Fields.{Holds};
+ghost use Rattle.ro_coop_core.specs.Fields.{blocked_at, Holds};
 ghost use Rattle.ro_coop_core.specs.Seats.{AreSpared};
 ghost use Rattle.ro_coop_core.specs.Seen.{Appends, Stays};
 ghost use Rattle.ro_coop_core.specs.Runs.{fields_of, job_of, state_of, seen, payload_by, IsAgreed, LastWrote};
 ghost use Rattle.ro_coop_core.specs.Amid.{CanOccur, MakesRoom, entering_of, first_answered, lapsed, lapsed_one, newcomer_at, newcomer_of, revived};
 
 use crate::cores::Core;
-use crate::seats::{Entering, occur_in_all, reserve_all, show_all};
+use crate::seats::{Entering, have_answered_alike, occur_in_all, reserve_all, show_all};
 use ro_event::{Call, Stop, View};
 use ro_journal::{Entry, How, Lost};
 use ro_kernel::Reservation;
@@ -44,7 +45,7 @@ struct Noted {
 
 impl Core {
     /// Votes on a thread that stands still in every replica: its event is done once, and the entry that was appended is answered.
-    /// Where the views are not all the same, or the limit of steps would be passed, that is an end.
+    /// Where the replicas don't agree on the thread, or the limit of steps would be passed, that is an end.
     ///
     /// # Errors
     /// Where there is no memory; nothing has changed then.
@@ -59,7 +60,7 @@ impl Core {
         ensures err { OnErr result (Stays (seen self.old) (seen self.new)) }
     {
         show_all(self.seats.as_slice(), thread, self.views.as_mut_slice());
-        if are_same(self.views.as_slice()) {
+        if self.agree(thread) {
             return self.hold(thread);
         }
         let entry = self.conclude(How::Differ);
@@ -67,6 +68,39 @@ impl Core {
             entry,
             writes: false,
         })
+    }
+
+    // Whether the replicas agree on a thread whose views they have shown: these are all one, and the replicas leave the same of the
+    // thread's reservation.
+    pub(crate) fn agree(&mut self, thread: u32) -> bool
+        requires holds { Holds (fields_of self.old) }
+        requires may { may_vote (state_of self.old) thread ≡ true }
+        ensures same { self.new ≡ self.old }
+        ensures agree { IsTrue result ↔ (((view : ViewSeen) × AreAll view self.old.views.items) × IsTrue (lapses_alike (state_of self.old) thread)) }
+    {
+        are_same(self.views.as_slice()) && self.lapses_alike(thread)
+    }
+
+    // Whether the replicas leave the same of a thread's reservation: all of them answered a call of the thread since the kernel last
+    // served one, or none did, or it has none that such a call would end.
+    fn lapses_alike(&mut self, thread: u32) -> bool
+        requires holds { Holds (fields_of self.old) }
+        requires may { may_vote (state_of self.old) thread ≡ true }
+        ensures same { self.new ≡ self.old }
+        ensures alike { result ≡ lapses_alike (state_of self.old) thread }
+    {
+        have_answered_alike(self.seats.as_slice(), thread) || !self.is_reserving(thread)
+    }
+
+    // Whether a thread has a reservation in the kernel, which is taken from it and given back.
+    fn is_reserving(&mut self, thread: u32) -> bool
+        requires { lives_on self.old.kernel.kernel thread ≡ true }
+        ensures same { self.new ≡ self.old }
+        ensures is { result ≡ is_some (reservation_of self.old.kernel.kernel.reserved thread) }
+    {
+        let reservation = self.kernel.release(thread);
+        self.kernel.restore(thread, reservation);
+        reservation.is_some()
     }
 
     /// The payload that all views showed, where it is to be written.
@@ -79,7 +113,7 @@ impl Core {
         }
     }
 
-    // A vote on which the views agree: all memory, then the limit of steps, then the event.
+    // A vote on which the replicas agree: all memory, then the limit of steps, then the event.
     fn hold(&mut self, thread: u32) -> Result<Voted, AllocError>
         requires agreed { (view : ViewSeen) × IsAgreed (fields_of self.old) thread view }
         ensures holds { Holds (fields_of self.new) }
@@ -254,6 +288,14 @@ impl Core {
         }
     }
 
+    // Whether a thread is blocked on a call.
+    fn is_blocked(&self, thread: u32) -> bool
+        requires { thread < 16 }
+        ensures { result ≡ is_some (blocked_at self.now.blocked thread) }
+    {
+        self.blocked[thread as usize].is_some()
+    }
+
     // An event that has changed the kernel is done in every replica and noted.
     fn occur(&mut self, event: &Event, noted: &Noted)
         requires can { CanOccur self.old (record { thread = noted.now.thread; event = event.now; entry = noted.now.entry; steps = noted.now.steps; writes = noted.now.writes; newcomer = noted.now.newcomer }) }
@@ -268,7 +310,8 @@ impl Core {
         let entering = self.entering(noted.newcomer);
         occur_in_all(self.seats.as_mut_slice(), &event.effect, thread, entering);
         self.journal.push_reserved(noted.entry);
-        self.waits.note(thread, self.blocked[thread as usize]);
+        let was_blocked = self.is_blocked(thread);
+        self.waits.note(thread, was_blocked);
         self.blocked[thread as usize] = event.blocked;
         self.steps += noted.steps;
         self.sent += written as u64;
@@ -287,7 +330,7 @@ impl Core {
 }
 
 /// Whether all views are the same.
-pub(crate) fn are_same(views: &[View]) -> bool
+fn are_same(views: &[View]) -> bool
     ensures { IsTrue result ↔ ((view : ViewSeen) × AreAll view views.now) }
 {
     match views.split_first() {

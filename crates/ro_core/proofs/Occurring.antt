@@ -1,6 +1,6 @@
 -- An event that is done in every replica and noted, in the fields of a run.
-use Rattle.std.proofs.Common.{◌≡◌, ℕ, ◌+◌, ◌*◌, ◌<◌, ◌≤◌, List, [], ◌∷◌, ◌++◌, length, true, Option, None, sym, ap, ◌∙◌, subst, arith}
-use Rattle.std.specs.Prelude.{◌^◌, false, is_none, slice_set, IfSome}
+use Rattle.std.proofs.Common.{◌≡◌, ℕ, ◌+◌, ◌*◌, ◌<◌, ◌≤◌, List, [], ◌∷◌, ◌++◌, length, Bool, true, true≢false, Option, Some, None, refl, sym, ap, ◌∙◌, subst, arith}
+use Rattle.std.specs.Prelude.{◌^◌, false, is_none, is_some, slice_set, IfSome}
 use Rattle.std.proofs.lemmas.Bool.{and_from}
 use Rattle.ro_journal.specs.Plan.{event_steps}
 use Rattle.ro_event.specs.declared.calls.Call.{Call}
@@ -28,6 +28,11 @@ use Rattle.ro_core.proofs.Behind.{Forgiven, happened-holds, all-can-take}
 use Rattle.ro_core.proofs.Waits.{first-same, still-unblocked}
 use Rattle.ro_core.proofs.Tests.{lives-within}
 use Rattle.ro_core.proofs.Votes.{live-few, payload-due, payload-few, writes-step, comes-happens, length-applied}
+
+-- a thread that was not blocked was so on no call
+pub unblocked : (call : Option Call) (was_blocked : Bool) → was_blocked ≡ is_some call → was_blocked ≡ false → call ≡ None
+unblocked None was_blocked e f = refl
+unblocked (Some call) was_blocked e f = absurd (true≢false (sym e ∙ f))
 
 module _ (r : Run) (o : Occurrence) (can : CanOccur r o) where
   abbrev pub f : Fields

@@ -19,7 +19,7 @@ use Rattle.ro_legal.specs.declared.actions.Action.{Action}
 use Rattle.ro_journal.specs.declared.Lease.{Lease}
 use Rattle.ro_legal.specs.Core.{Job, Core, is_going, nothing_lent, is_home, offers, is_awake, is_lendable, may_vote, may_free}
 use Rattle.ro_legal.specs.Waits.{is_overdue}
-use Rattle.ro_legal.specs.Action.{lowest_below, threads_made, turn_of, is_urgent, urgent_next}
+use Rattle.ro_legal.specs.Action.{lowest_below, threads_made, turn_of, has_turn, is_urgent, urgent_next}
 use Rattle.ro_core.specs.Seen.{IsOfJob}
 use Rattle.ro_core.specs.Fields.{Seated, AreSeated, AreHome, seat_unstopped, Fields, core_in, blocked_at, is_unblocked, Holds}
 use Rattle.ro_core.specs.Grouped.{seat_stopped}
@@ -274,4 +274,4 @@ module _ (f : Fields) (h : Holds f) (early : f.waits.votes < f.calm) where
           absurd (omega arith)
 
   pub calm-none : urgent_next (core_in f) ≡ None
-  calm-none = ap (option_and_then (turn_of (core_in f))) (none_most (core_in f) (threads_made (core_in f)) none-urgent)
+  calm-none = ap (option_and_then (turn_of (core_in f))) (none_most (core_in f) (has_turn (core_in f)) (threads_made (core_in f)) none-urgent)

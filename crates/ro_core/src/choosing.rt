@@ -4,7 +4,7 @@ ghost use Rattle.std.specs.Option.{option_map_or};
 ghost use Rattle.ro_kernel.specs.Serve.{serves};
 ghost use Rattle.ro_legal.specs.Core.{is_going, nothing_lent, is_lendable, may_vote, may_free};
 ghost use Rattle.ro_legal.specs.Legal.{is_stuck, may_scrub};
-ghost use Rattle.ro_legal.specs.Action.{lowest_below, or_else, threads_made, lend_next, turn_next, turn_of, is_urgent, outwaits, most_urgent_below, urgent_next, first_action, is_scrub_due, scrub_action, next_action as next};
+ghost use Rattle.ro_legal.specs.Action.{lowest_below, or_else, threads_made, lend_next, turn_next, turn_of, overdue_and, is_urgent, outwaits, most_urgent_below, urgent_next, longest_below, first_freed, first_action, is_scrub_due, scrub_action, next_action as next};
 ghost use Rattle.ro_core.specs.Fields.{first_unblocked, Holds, IsCalm};
 ghost use Rattle.ro_core.specs.Runs.{fields_of, job_of, state_of};
 
@@ -15,8 +15,9 @@ use ro_kernel::Kernel;
 use ro_legal::{Action, PATIENCE, Waits};
 
 impl Core {
-    /// What comes next: an end that is due; else, where nothing is lent, the lowest thread is freed; else the thread that has
-    /// waited too long has its turn; else the lowest thread is voted on, or the lowest of the lowest replica is lent.
+    /// What comes next: an end that is due; else, where nothing is lent, a thread is freed; else one has its turn that has waited
+    /// too long; else the lowest thread is voted on, or the lowest of the lowest replica is lent. Of those that can be freed the
+    /// lowest is, unless one has waited too long: then the one that has waited longest.
     pub fn next_action(&self) -> Action
         requires holds { Holds (fields_of self.now) }
         ensures next { result ≡ next (job_of self.now) (state_of self.now) }
@@ -68,7 +69,7 @@ impl Core {
         requires holds { Holds (fields_of self.now) }
         ensures { result ≡ first_action (job_of self.now) (state_of self.now) }
     {
-        if let Some(thread) = self.lowest_to_free() {
+        if let Some(thread) = self.first_to_free() {
             return Some(Action::Free(thread));
         }
         self.next_turn()
@@ -172,6 +173,39 @@ impl Core {
         }
     }
 
+    // Of the threads that can be freed the one that has waited too long, and longest, else the lowest.
+    fn first_to_free(&self) -> Option<u32>
+        requires holds { Holds (fields_of self.now) }
+        ensures { result ≡ first_freed (job_of self.now) (state_of self.now) }
+    {
+        let lowest = self.lowest_to_free()?;
+        Some(self.longest_to_free().unwrap_or(lowest))
+    }
+
+    // Of those that can be freed and have waited too long the one that has waited longest, and of several the lowest.
+    fn longest_to_free(&self) -> Option<u32>
+        requires holds { Holds (fields_of self.now) }
+        ensures { result ≡ longest_below (state_of self.now) (may_free (job_of self.now) (state_of self.now)) (threads_made (state_of self.now)) }
+    {
+        let mut longest = None;
+        for thread in 0..self.kernel.made() {
+            if self.is_due_free(thread) && self.outwaits(thread, longest) {
+                longest = Some(thread);
+            }
+        }
+        longest
+    }
+
+    // Whether a thread has waited too long, and can be freed.
+    fn is_due_free(&self, thread: u32) -> bool
+        requires holds { Holds (fields_of self.now) }
+        requires thread { thread < 16 }
+        ensures { result ≡ overdue_and (state_of self.now) (may_free (job_of self.now) (state_of self.now)) thread }
+    {
+        self.waits.is_overdue(thread) && self.may_free(thread)
+    }
+
+    // The lowest that can be freed.
     fn lowest_to_free(&self) -> Option<u32>
         requires holds { Holds (fields_of self.now) }
         ensures { result ≡ lowest_below (threads_made (state_of self.now)) (may_free (job_of self.now) (state_of self.now)) }

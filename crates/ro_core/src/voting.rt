@@ -1,9 +1,9 @@
 //! Votes, and the calls that are served after one.
-ghost use Rattle.std.specs.Prelude.{◌≡◌, ◌⊎◌, ◌<◌, ◌≤◌, ◌∷◌, ◌++◌, ℕ, List, [], Some, None, true, false, IfOk, IfSome, OnErr, OnOk, length};
+ghost use Rattle.std.specs.Prelude.{◌≡◌, ◌⊎◌, ◌<◌, ◌≤◌, ◌∷◌, ◌++◌, ℕ, List, [], Some, None, true, false, is_some, IfOk, IfSome, OnErr, OnOk, length};
 ghost use Rattle.ro_vote.specs.Verdict.{verdict_of, Split};
 ghost use Rattle.ro_legal.specs.Core.{may_vote, may_free, views_of};
 ghost use Rattle.ro_legal.specs.Legal.{IsAllowed, output_of};
-ghost use Rattle.ro_core.specs.Fields.{Holds, AreSpared, split_end};
+ghost use Rattle.ro_core.specs.Fields.{blocked_at, Holds, AreSpared, split_end};
 ghost use Rattle.ro_core.specs.Seen.{Appends, IsOfMajority, Stays};
 ghost use Rattle.ro_legal.specs.Decides.{DecidesVote, DecidesFree, IsSplit};
 ghost use Rattle.ro_core.specs.Runs.{fields_of, job_of, state_of, silent, payload_by, MakesRoom, IsHeld, CanOccur, LastWrote};
@@ -11,7 +11,6 @@ ghost use Rattle.ro_core.specs.Runs.{fields_of, job_of, state_of, silent, payloa
 use crate::choosing::{calm_behind, unblocked_behind};
 use crate::cores::Core;
 use crate::wishing::forgive;
-use ro_event::Call;
 use ro_journal::{Entry, How};
 use ro_serving::{Coming, Event, serve};
 use ro_vote::{Won, verdict};
@@ -189,6 +188,14 @@ impl Core {
         Ok(())
     }
 
+    // Whether a thread is blocked on a call.
+    fn is_blocked(&self, thread: u32) -> bool
+        requires { thread < 16 }
+        ensures { result ≡ is_some (blocked_at self.now.blocked thread) }
+    {
+        self.blocked[thread as usize].is_some()
+    }
+
     // An event that has changed the kernel is done in every replica and noted. It stays where it is: to move it would copy it.
     fn occur(&mut self, event: &Event, noted: &Noted)
         requires can { CanOccur self.old (record { thread = noted.now.thread; event = event.now; entry = noted.now.entry; steps = noted.now.steps; writer = noted.now.writer; threads = noted.now.threads }) }
@@ -200,11 +207,11 @@ impl Core {
     {
         let thread = noted.thread;
         let written = self.payload(noted.writer).len();
-        let was = self.blocked[thread as usize];
-        let stays = leaves_blocked(event, was);
+        let was_blocked = self.is_blocked(thread);
+        let stays = leaves_blocked(event, was_blocked);
         self.seats.apply(&event.effect, noted.threads);
         self.journal.push_reserved(noted.entry);
-        self.waits.note(thread, was);
+        self.waits.note(thread, was_blocked);
         self.blocked[thread as usize] = event.blocked;
         self.unblocked = unblocked_behind(&self.kernel, &self.blocked, self.unblocked, stays);
         self.calm = calm_behind(&self.waits, &self.kernel, &self.blocked, self.calm, stays);
@@ -217,11 +224,11 @@ impl Core {
 }
 
 // Whether the calls on which threads are blocked, and which of them would be done, surely stay as they were before an event of a
-// thread that was blocked on this call, if it was.
-fn leaves_blocked(event: &Event, was: Option<Call>) -> bool
-    ensures { result ≡ true → (event.now.moves ≡ false) × (event.now.blocked ≡ None) × (was ≡ None) }
+// thread that was blocked, if it was.
+fn leaves_blocked(event: &Event, was_blocked: bool) -> bool
+    ensures { result ≡ true → (event.now.moves ≡ false) × (event.now.blocked ≡ None) × (was_blocked ≡ false) }
 {
-    !event.moves && event.blocked.is_none() && was.is_none()
+    !event.moves && event.blocked.is_none() && !was_blocked
 }
 
 /// How a run of so many replicas ends where their views have no majority.

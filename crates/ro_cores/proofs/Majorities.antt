@@ -45,7 +45,7 @@ module _ (job : Job) (journal : List Entry) (unstruck : job.faults ≡ []) (lega
         let count : length (views_of job core thread) ≡ length core.replicas = views-count job core thread (and_parts _ _ may).1 in
         let replicas = (keeps-replicas job journal unstruck legal).replica_count in
         let some = some-replicas job.settings.replicas in_range.replicas in
-        let all = all-counted view (views_of job core thread) agreed in
+        let all = all-counted view (views_of job core thread) agreed.0 in
         omega arith;
     rest = [];
     front = sym (append-nil view.payload);

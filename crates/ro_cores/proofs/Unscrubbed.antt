@@ -6,8 +6,8 @@ use Rattle.ro_journal.specs.declared.How.{How}
 use Rattle.ro_journal.specs.declared.How.TheVariants.{Deadlock}
 use Rattle.ro_legal.specs.declared.actions.Action.{Action}
 use Rattle.ro_legal.specs.declared.actions.Action.TheVariants.{Vote as DoVote, Free as DoFree, Scrub as DoScrub, Lend, End as DoEnd, Wait}
-use Rattle.ro_legal.specs.Core.{Job, Core, nothing_lent, is_lendable, may_vote, may_free}
-use Rattle.ro_legal.specs.Action.{or_else, lowest_below, map_action, threads_made, lend_in, lend_next, turn_next, turn_of, urgent_next, first_action, action_or, is_scrub_due, next_action}
+use Rattle.ro_legal.specs.Core.{Job, Core, nothing_lent, is_lendable, may_vote}
+use Rattle.ro_legal.specs.Action.{or_else, lowest_below, map_action, threads_made, lend_in, lend_next, turn_next, turn_of, urgent_next, first_freed, first_action, action_or, is_scrub_due, next_action}
 use Rattle.ro_legal.proofs.Nexts.{next_over, next_due, next_first}
 
 abbrev IsOther : Action → Type 0
@@ -49,7 +49,7 @@ other-urgent core (Some thread) = other-own core thread
 
 other-first : (job : Job) (core : Core) → IfOther (first_action job core)
 other-first job core =
-    other-or (map_action DoFree (lowest_below (threads_made core) (may_free job core))) _ (other-mapped DoFree (λ thread. tt) (lowest_below (threads_made core) (may_free job core)))
+    other-or (map_action DoFree (first_freed job core)) _ (other-mapped DoFree (λ thread. tt) (first_freed job core))
     (other-or (urgent_next core) (turn_next core) (other-urgent core _) (other-turn core))
 
 other-else : (b : Bool) (o : Option Action) → IfOther o → IsOther (action_or (if b then DoEnd Deadlock else Wait) o)

@@ -5,8 +5,8 @@ use Rattle.ro_legal.specs.declared.actions.Action.{Action}
 use Rattle.ro_legal.specs.declared.actions.Action.TheVariants.{Vote, Free, Lend}
 use Rattle.ro_legal.specs.Core.{Job, Core, is_going, nothing_lent, is_lendable, may_vote, may_free}
 use Rattle.ro_legal.specs.Legal.{any_below, is_stuck}
-use Rattle.ro_legal.specs.Action.{or_else, lowest_below, map_action, threads_made, lend_in, turn_next, lend_next, urgent_next, first_action}
-use Rattle.ro_legal.proofs.Nexts.{found_below, urgent-turn}
+use Rattle.ro_legal.specs.Action.{or_else, lowest_below, map_action, threads_made, lend_in, turn_next, lend_next, urgent_next, first_freed, first_action}
+use Rattle.ro_legal.proofs.Nexts.{found_below, urgent-turn, freed-none, none-freed}
 
 -- ---- the lowest number that passes
 
@@ -116,10 +116,20 @@ urgent-some job core = by (urgent_next core) refl
     by None e = refl
     by (Some action) e = sym (urgent-turn job core (ap is_some e))
 
+-- a thread is freed next where one can be
+free-some : (job : Job) (core : Core) → is_some (first_freed job core) ≡ is_some (lowest_below (threads_made core) (may_free job core))
+free-some job core = by (first_freed job core) (lowest_below (threads_made core) (may_free job core)) (freed-none job core) (none-freed job core)
+  where
+    by : (one other : Option ℕ) → (one ≡ None → other ≡ None) → (other ≡ None → one ≡ None) → is_some one ≡ is_some other
+    by None other there back = sym (ap is_some (there refl))
+    by (Some t) None there back = ap is_some (back refl)
+    by (Some t) (Some k) there back = refl
+
 -- nothing can be done where nothing can be freed, voted on or lent
 none-first : (job : Job) (core : Core) → is_some (first_action job core) ≡ any_below (threads_made core) (λ thread. may_vote core thread || may_free job core thread || any_below (length core.replicas) (λ replica. is_lendable core replica thread))
 none-first job core =
-    freed (lowest_below made (may_free job core)) (or_else (urgent_next core) (turn_next core))
+    freed (first_freed job core) (or_else (urgent_next core) (turn_next core))
+    ∙ ap (λ (b : Bool). b || is_some (or_else (urgent_next core) (turn_next core))) (free-some job core)
     ∙ ap (λ (b : Bool). is_some (lowest_below made (may_free job core)) || b) (urgent-some job core ∙ turned (lowest_below made (may_vote core)) (lend_next core))
     ∙ swap (is_some (lowest_below made (may_free job core))) (is_some (lowest_below made (may_vote core))) (is_some (lend_next core))
     ∙ ap (λ (b : Bool). (is_some (lowest_below made (may_vote core)) || is_some (lowest_below made (may_free job core))) || b) (none-lent core)

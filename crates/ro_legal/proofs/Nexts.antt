@@ -11,7 +11,7 @@ use Rattle.ro_legal.specs.Core.{Job, Core, is_going, nothing_lent, is_lendable, 
 use Rattle.ro_legal.specs.Legal.{any_below, is_stuck, may_scrub, EndsAlone, EndsSink, MayEnd, due, alone}
 use Rattle.ro_legal.specs.Waits.{is_overdue}
 use Rattle.ro_legal.specs.Laws.{NothingFor, NotLendable}
-use Rattle.ro_legal.specs.Action.{or_else, lowest_below, map_action, threads_made, lend_in, turn_next, lend_next, turn_of, is_urgent, outwaits, most_urgent_below, urgent_next, first_action, action_or, is_scrub_due, scrub_action, action_unless_due, next_action}
+use Rattle.ro_legal.specs.Action.{or_else, lowest_below, map_action, threads_made, lend_in, turn_next, lend_next, turn_of, overdue_and, longest_below, has_turn, is_urgent, outwaits, most_urgent_below, urgent_next, first_freed, first_action, action_or, is_scrub_due, scrub_action, action_unless_due, next_action}
 
 -- no number below n passes
 none_below : (n : ℕ) (test : ℕ → Bool) → lowest_below n test ≡ None → any_below n test ≡ false
@@ -65,58 +65,105 @@ mapped f (Some n) rest P some none = some n refl
 
 -- ---- the thread that has waited longest
 
--- of the urgent threads below n: none, or one that no other has outwaited
-abbrev Best : Core → ℕ → Option ℕ → Type 0
-Best core n None = (k : ℕ) → k < n → is_urgent core k ≡ false
-Best core n (Some t) = (t < n) × (is_urgent core t ≡ true) × ((k : ℕ) → k < n → is_urgent core k ≡ true → core.waited k ≤ core.waited t)
+-- of the threads below n that are overdue and pass: none, or one that no other has outwaited
+abbrev pub Best : Core → (test : ℕ → Bool) → ℕ → Option ℕ → Type 0
+Best core test n None = (k : ℕ) → k < n → overdue_and core test k ≡ false
+Best core test n (Some t) = (t < n) × (overdue_and core test t ≡ true) × ((k : ℕ) → k < n → overdue_and core test k ≡ true → core.waited k ≤ core.waited t)
 
--- one thread more, which is urgent and has waited longer, or not
-best_more : (core : Core) (n : ℕ) (o : Option ℕ) (b : Bool) → (is_urgent core n && outwaits core n o) ≡ b → Best core n o → Best core (suc n) (if b then Some n else o)
-best_more core n o true e best =
-    let parts = and_parts (is_urgent core n) (outwaits core n o) e in (
-      omega arith,
-      parts.0,
-      λ k less urgent. elim (cases_lt k n) [
-        | inl below ↦ before o best parts.1 k below urgent
-        | inr last ↦ let same : k ≡ n = omega arith in let w : core.waited k ≡ core.waited n = ap core.waited same in omega arith
-      ],
-    )
-  where
-    before : (o : Option ℕ) → Best core n o → outwaits core n o ≡ true → (k : ℕ) → k < n → is_urgent core k ≡ true → core.waited k ≤ core.waited n
-    before None none longer k less urgent = absurd (true≢false (sym urgent ∙ none k less))
-    before (Some t) some longer k less urgent = let w = some.2 k less urgent in let l = ltb-true (core.waited t) (core.waited n) longer in omega arith
-best_more core n None false e best = λ k less. elim (cases_lt k n) [
-  | inl below ↦ best k below
-  | inr last ↦ let same : k ≡ n = omega arith in ap (is_urgent core) same ∙ left_of (is_urgent core n) e
-]
-  where
-    left_of : (b : Bool) → (b && true) ≡ false → b ≡ false
-    left_of true f = f
-    left_of false f = refl
-best_more core n (Some t) false e best = (
-  let low = best.0 in omega arith,
-  best.1,
-  λ k less urgent. elim (cases_lt k n) [
-    | inl below ↦ best.2 k below urgent
-    | inr last ↦ let same : k ≡ n = omega arith in let w : core.waited k ≡ core.waited n = ap core.waited same in let l = ltb-false (core.waited t) (core.waited n) (right_of (is_urgent core n) (ap (is_urgent core) (sym same) ∙ urgent) e) in omega arith
-  ],
-)
-  where
-    right_of : (b : Bool) → b ≡ true → (b && outwaits core n (Some t)) ≡ false → outwaits core n (Some t) ≡ false
-    right_of true is f = f
-    right_of false is f = absurd (true≢false (sym is))
+module _ (core : Core) (test : ℕ → Bool) where
+  -- the thread is overdue and passes
+  abbrev calls : ℕ → Bool
+  calls = overdue_and core test
 
-is_best : (core : Core) (n : ℕ) → Best core n (most_urgent_below core n)
-is_best core zero = λ k less. absurd (omega arith)
-is_best core (suc n) = best_more core n (most_urgent_below core n) (is_urgent core n && outwaits core n (most_urgent_below core n)) refl (is_best core n)
+  -- one thread more, which calls and has waited longer, or not
+  best_more : (n : ℕ) (o : Option ℕ) (b : Bool) → (calls n && outwaits core n o) ≡ b → Best core test n o → Best core test (suc n) (if b then Some n else o)
+  best_more n o true e best =
+      let parts = and_parts (calls n) (outwaits core n o) e in (
+        omega arith,
+        parts.0,
+        λ k less urgent. elim (cases_lt k n) [
+          | inl below ↦ before o best parts.1 k below urgent
+          | inr last ↦ let same : k ≡ n = omega arith in let w : core.waited k ≡ core.waited n = ap core.waited same in omega arith
+        ],
+      )
+    where
+      before : (o : Option ℕ) → Best core test n o → outwaits core n o ≡ true → (k : ℕ) → k < n → calls k ≡ true → core.waited k ≤ core.waited n
+      before None none longer k less urgent = absurd (true≢false (sym urgent ∙ none k less))
+      before (Some t) some longer k less urgent = let w = some.2 k less urgent in let l = ltb-true (core.waited t) (core.waited n) longer in omega arith
+  best_more n None false e best = λ k less. elim (cases_lt k n) [
+    | inl below ↦ best k below
+    | inr last ↦ let same : k ≡ n = omega arith in ap calls same ∙ left_of (calls n) e
+  ]
+    where
+      left_of : (b : Bool) → (b && true) ≡ false → b ≡ false
+      left_of true f = f
+      left_of false f = refl
+  best_more n (Some t) false e best = (
+    let low = best.0 in omega arith,
+    best.1,
+    λ k less urgent. elim (cases_lt k n) [
+      | inl below ↦ best.2 k below urgent
+      | inr last ↦ let same : k ≡ n = omega arith in let w : core.waited k ≡ core.waited n = ap core.waited same in let l = ltb-false (core.waited t) (core.waited n) (right_of (calls n) (ap calls (sym same) ∙ urgent) e) in omega arith
+    ],
+  )
+    where
+      right_of : (b : Bool) → b ≡ true → (b && outwaits core n (Some t)) ≡ false → outwaits core n (Some t) ≡ false
+      right_of true is f = f
+      right_of false is f = absurd (true≢false (sym is))
 
--- there is none where none is urgent
-pub none_most : (core : Core) (n : ℕ) → ((k : ℕ) → k < n → is_urgent core k ≡ false) → most_urgent_below core n ≡ None
-none_most core n calm = by (most_urgent_below core n) refl (is_best core n)
-  where
-    by : (o : Option ℕ) → most_urgent_below core n ≡ o → Best core n o → most_urgent_below core n ≡ None
-    by None e best = e
-    by (Some t) e best = absurd (true≢false (sym best.1 ∙ calm t best.0))
+  pub is_best : (n : ℕ) → Best core test n (longest_below core test n)
+  is_best zero = λ k less. absurd (omega arith)
+  is_best (suc n) = best_more n (longest_below core test n) (calls n && outwaits core n (longest_below core test n)) refl (is_best n)
+
+  -- there is none where none calls
+  pub none_most : (n : ℕ) → ((k : ℕ) → k < n → calls k ≡ false) → longest_below core test n ≡ None
+  none_most n calm = by (longest_below core test n) refl (is_best n)
+    where
+      by : (o : Option ℕ) → longest_below core test n ≡ o → Best core test n o → longest_below core test n ≡ None
+      by None e best = e
+      by (Some t) e best = absurd (true≢false (sym best.1 ∙ calm t best.0))
+
+-- ---- the thread that is freed
+
+-- no thread that can be freed has waited too long, and longer than this one
+abbrev pub FreedFirst : Job → Core → (thread : ℕ) → Type 0
+FreedFirst job core thread = (other : ℕ) → other < threads_made core → 64 ≤ core.waited other → may_free job core other ≡ true → core.waited other ≤ core.waited thread
+
+module _ (job : Job) (core : Core) where
+  abbrev frees : ℕ → Bool
+  frees = may_free job core
+
+  -- where one is found it can be freed, and none that can has waited too long, and longer
+  pub freed-first : (thread : ℕ) → first_freed job core ≡ Some thread → (frees thread ≡ true) × FreedFirst job core thread
+  freed-first thread e = by (longest_below core frees (threads_made core)) (is_best core frees (threads_made core)) e
+    where
+      calls : (other : ℕ) → 64 ≤ core.waited other → frees other ≡ true → overdue_and core frees other ≡ true
+      calls other long may = and_from (is_overdue (core.waited other)) (frees other) (le-leb 64 (core.waited other) long) may
+
+      by : (o : Option ℕ) → Best core frees (threads_made core) o → or_else o (lowest_below (threads_made core) frees) ≡ Some thread → (frees thread ≡ true) × FreedFirst job core thread
+      by None none f = (found_below (threads_made core) frees thread f, λ other less long may. absurd (true≢false (sym (calls other long may) ∙ none other less)))
+      by (Some t) best f =
+          let same : t ≡ thread = (let x : Some t ≡ Some thread = f in cc) in (
+            ap frees (sym same) ∙ (and_parts (is_overdue (core.waited t)) (frees t) best.1).1,
+            λ other less long may. let w = best.2 other less (calls other long may) in let s = ap core.waited same in omega arith,
+          )
+
+  -- and where none is none can be
+  pub freed-none : first_freed job core ≡ None → lowest_below (threads_made core) frees ≡ None
+  freed-none e = by (longest_below core frees (threads_made core)) e
+    where
+      by : (o : Option ℕ) → or_else o (lowest_below (threads_made core) frees) ≡ None → lowest_below (threads_made core) frees ≡ None
+      by None f = f
+      by (Some t) f = absurd (let x : Some t ≡ None = f in cc)
+
+  pub none-freed : lowest_below (threads_made core) frees ≡ None → first_freed job core ≡ None
+  none-freed e =
+      ap (λ (o : Option ℕ). or_else o (lowest_below (threads_made core) frees)) (none_most core frees (threads_made core) (λ k less. by (is_overdue (core.waited k)) (never_below (threads_made core) frees (none_below (threads_made core) frees e) k less)))
+      ∙ e
+    where
+      by : (b : Bool) {c : Bool} → c ≡ false → (b && c) ≡ false
+      by true f = f
+      by false f = refl
 
 -- what can be done for a thread
 pub data TurnIs (core : Core) (thread : ℕ) : Option Action → Type 0 where
@@ -158,7 +205,7 @@ abbrev ComesFirst : Job → Core → (thread : ℕ) → Type 0
 ComesFirst job core thread = (lowest_below (threads_made core) (may_free job core) ≡ None) × Foremost core thread
 
 -- where no thread is urgent
-foremost_of_none : (core : Core) (thread : ℕ) → Best core (threads_made core) None → Foremost core thread
+foremost_of_none : (core : Core) (thread : ℕ) → Best core (has_turn core) (threads_made core) None → Foremost core thread
 foremost_of_none core thread none other less urgent = absurd (true≢false (sym urgent ∙ none other less))
 
 -- nothing can be done for one that has waited for so many votes, and longer
@@ -173,7 +220,7 @@ yields core thread other foremost less long longer = turn_none core other (by (i
 data NextIs (job : Job) (core : Core) : Action → Type 0 where
   is_over : is_some core.ended ≡ true → NextIs job core Over
   is_end : {how : How} → core.ended ≡ None → MayEnd job core how → unwrap_or core.due Deadlock ≡ how → NextIs job core (DoEnd how)
-  is_free : {thread : ℕ} → may_free job core thread ≡ true → is_scrub_due job core ≡ false → NextIs job core (DoFree thread)
+  is_free : {thread : ℕ} → may_free job core thread ≡ true → is_scrub_due job core ≡ false → FreedFirst job core thread → NextIs job core (DoFree thread)
   is_vote : {thread : ℕ} → may_vote core thread ≡ true → is_scrub_due job core ≡ false → ComesFirst job core thread → NextIs job core (DoVote thread)
   is_scrub : may_scrub core ≡ true → NextIs job core DoScrub
   is_lend : {replica thread : ℕ} → is_going core ≡ true → is_lendable core replica thread ≡ true → (is_scrub_due job core ≡ false → ComesFirst job core thread) → NextIs job core (Lend replica thread)
@@ -238,20 +285,20 @@ module _ (job : Job) (core : Core) where
       lend_none : is_some (lend_next core) ≡ false → lend ≡ None
       lend_none = lending (λ (o : Option Action). is_some o ≡ false → lend ≡ None) (λ r t may f. absurd (true≢false f)) (λ lends f. lends)
 
-      has_turn : (t : ℕ) → t < made → is_some (turn_next core) ≡ false → (o : Option Action) → TurnIs core t o → is_some o ≡ true → ⊥
-      has_turn t less f _ (is_voted may) some =
+      turn_left : (t : ℕ) → t < made → is_some (turn_next core) ≡ false → (o : Option Action) → TurnIs core t o → is_some o ≡ true → ⊥
+      turn_left t less f _ (is_voted may) some =
           true≢false (sym may ∙ never_below made (may_vote core) (none_below made (may_vote core) (vote_none vote (lend_next core) f).0) t less)
-      has_turn t less f _ (is_lent_in {replica = r} under may) some =
+      turn_left t less f _ (is_lent_in {replica = r} under may) some =
           true≢false (sym may ∙ never_below (length core.replicas) (λ replica. is_lendable core replica t) (none_lendable (lend_none (vote_none vote (lend_next core) f).1) t less) r under)
-      has_turn t less f _ (has_none unvoted unlent) some = true≢false (sym some)
+      turn_left t less f _ (has_none unvoted unlent) some = true≢false (sym some)
 
-      nothing : is_some (turn_next core) ≡ false → (o : Option ℕ) → Best core made o → is_some (option_and_then (turn_of core) o) ≡ true → ⊥
+      nothing : is_some (turn_next core) ≡ false → (o : Option ℕ) → Best core (has_turn core) made o → is_some (option_and_then (turn_of core) o) ≡ true → ⊥
       nothing f None best some = true≢false (sym some)
-      nothing f (Some t) best some = has_turn t best.0 f (turn_of core t) (turn_is core t) some
+      nothing f (Some t) best some = turn_left t best.0 f (turn_of core t) (turn_is core t) some
 
       by : (b : Bool) → is_some (turn_next core) ≡ b → is_some (turn_next core) ≡ true
       by true f = f
-      by false f = absurd (nothing f (most_urgent_below core made) (is_best core made) some)
+      by false f = absurd (nothing f (most_urgent_below core made) (is_best core (has_turn core) made) some)
 
   -- what is found comes next, or else something
   abbrev NextOr : Action → Option Action → Type 0
@@ -267,8 +314,9 @@ module _ (job : Job) (core : Core) where
 
   by_first : core.ended ≡ None → core.due ≡ None → is_scrub_due job core ≡ false → (b : Bool) → nothing_lent core ≡ b → NextIs job core (action_or (if b then DoEnd Deadlock else Wait) (first_action job core))
   by_first still none rests b lent =
-      mapped DoFree free (or_else (urgent_next core) (turn_next core)) (NextOr (if b then DoEnd Deadlock else Wait)) (λ t e. is_free (found_below made (may_free job core) t e) rests) (λ frees.
-      by_urgent frees (most_urgent_below core made) (is_best core made))
+      mapped DoFree (first_freed job core) (or_else (urgent_next core) (turn_next core)) (NextOr (if b then DoEnd Deadlock else Wait)) (λ t e. let first = freed-first job core t e in is_free first.0 rests first.1) (λ unfreed.
+      let frees = freed-none job core unfreed in
+      by_urgent frees (most_urgent_below core made) (is_best core (has_turn core) made))
     where
       going : is_going core ≡ true
       going = and_from _ _ (ap is_none none) (ap is_none still)
@@ -281,7 +329,7 @@ module _ (job : Job) (core : Core) where
       left false out frees votes lends = is_wait out
 
       -- nothing is urgent
-      by_turn : free ≡ None → Best core made None → NextOr otherwise (turn_next core)
+      by_turn : free ≡ None → Best core (has_turn core) made None → NextOr otherwise (turn_next core)
       by_turn frees calm =
           mapped DoVote vote (lend_next core) (NextOr otherwise) (λ t e. is_vote (found_below made (may_vote core) t e) rests (frees, foremost_of_none core t calm)) (λ votes.
           lending (NextOr otherwise) (λ r t e. is_lend going e (λ rests. (frees, foremost_of_none core t calm))) (left b lent frees votes))
@@ -292,7 +340,7 @@ module _ (job : Job) (core : Core) where
       of_urgent t first urgent _ (is_lent_in {replica = r} under may) some = is_lend going may (λ rests. first)
       of_urgent t first urgent _ (has_none unvoted unlent) some = absurd (true≢false (sym some))
 
-      by_urgent : free ≡ None → (o : Option ℕ) → Best core made o → NextOr otherwise (or_else (option_and_then (turn_of core) o) (turn_next core))
+      by_urgent : free ≡ None → (o : Option ℕ) → Best core (has_turn core) made o → NextOr otherwise (or_else (option_and_then (turn_of core) o) (turn_next core))
       by_urgent frees None calm = by_turn frees calm
       by_urgent frees (Some t) best = of_urgent t (frees, best.2) best.1 (turn_of core t) (turn_is core t) (and_parts (is_overdue (core.waited t)) (is_some (turn_of core t)) best.1).1
 
@@ -364,14 +412,25 @@ module _ (job : Job) (core : Core) where
   free_next thread e = by (comes (DoFree thread) e)
     where
       by : NextIs job core (DoFree thread) → may_free job core thread ≡ true
-      by (is_free may rests) = may
+      by (is_free may rests first) = may
 
   -- nor does a free
   pub free_rests : (thread : ℕ) → next_action job core ≡ DoFree thread → is_scrub_due job core ≡ false
   free_rests thread e = by (comes (DoFree thread) e)
     where
       by : NextIs job core (DoFree thread) → is_scrub_due job core ≡ false
-      by (is_free may rests) = rests
+      by (is_free may rests first) = rests
+
+  -- a thread that was outwaited is freed next where the other can't be
+  pub outwaited_freed : (thread : ℕ) → next_action job core ≡ DoFree thread → (other : ℕ) → other < made → 64 ≤ core.waited other → core.waited thread < core.waited other → may_free job core other ≡ false
+  outwaited_freed thread e other less long longer = by (comes (DoFree thread) e)
+    where
+      no : FreedFirst job core thread → (b : Bool) → may_free job core other ≡ b → b ≡ false
+      no first true may = absurd (let w = first other less long may in omega arith)
+      no first false may = refl
+
+      by : NextIs job core (DoFree thread) → may_free job core other ≡ false
+      by (is_free may rests first) = no first (may_free job core other) refl
 
   -- replicas that are to be scrubbed next may be scrubbed
   pub scrub_next : next_action job core ≡ DoScrub → may_scrub core ≡ true

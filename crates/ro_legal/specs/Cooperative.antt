@@ -2,7 +2,7 @@
 -- and the core that each leaves. There are no faults, copies and scrubs. A lease is judged as if whoever asks got the mutex;
 -- what was got is held against the rows of the lock page when it is closed.
 pub use Rattle.ro_legal.specs.Legal.{stopped}
-use Rattle.std.specs.Prelude.{◌≡◌, ◌⊎◌, ℕ, ◌+◌, ◌-◌, ◌<◌, ◌≤◌, max, IsTrue, IsSome, Bool, true, false, not, ◌&&◌, List, [], ◌∷◌, ◌++◌, length, map, replicate, Option, Some, None, is_none, ◌==◌, if◌then◌else◌, slice_get, slice_set}
+use Rattle.std.specs.Prelude.{◌≡◌, ◌⊎◌, ℕ, ◌+◌, ◌-◌, ◌<◌, ◌≤◌, max, IsTrue, IsSome, Bool, true, false, not, ◌&&◌, ◌||◌, List, [], ◌∷◌, ◌++◌, length, map, replicate, Option, Some, None, is_none, ◌==◌, if◌then◌else◌, slice_get, slice_set}
 use Rattle.std.specs.List.{filter, list_all}
 use Rattle.std.specs.Option.{option_and_then, option_map, option_map_or}
 use Rattle.ro_event.specs.declared.calls.Which.{Which}
@@ -23,6 +23,7 @@ use Rattle.ro_journal.specs.declared.losers.Lost.TheVariants.{Nobody}
 use Rattle.ro_journal.specs.Plan.{event_steps}
 use Rattle.ro_mutex.specs.Owners.{owner_of}
 use Rattle.ro_kernel.specs.Kernel.{Kernel, released}
+use Rattle.ro_kernel.specs.Reserved.{reservation_of}
 use Rattle.ro_replica.specs.Replica.{Replica, changed_at, stop_of, applied, cancelled}
 use Rattle.ro_replica.specs.Runs.{standing_at}
 use Rattle.ro_plain.specs.Machine.{layout_in}
@@ -228,9 +229,17 @@ abbrev pub AreAll : View → List View → Type 0
 AreAll view [] = Unit {0}
 AreAll view (other ∷ views) = (other ≡ view) × AreAll view views
 
--- all views of the thread are one
+-- all replicas answered a call of the thread since the kernel last served one, or none did
+abbrev pub answered_alike : (thread : ℕ) → List Side → Bool
+answered_alike thread sides = list_all (λ side. side.answered thread) sides || list_all (λ side. not (side.answered thread)) sides
+
+-- By all replicas the same is left of the thread's reservation: it has none in the kernel, or all of them have ended it, or none has.
+abbrev pub lapses_alike : Core → (thread : ℕ) → Bool
+lapses_alike core thread = is_none (reservation_of core.kernel.reserved thread) || answered_alike thread core.sides
+
+-- all views of the thread are one, and the replicas leave the same of its reservation
 abbrev pub AgreeOn : Job → Core → (thread : ℕ) → View → Type 0
-AgreeOn job core thread view = AreAll view (views_of job core thread)
+AgreeOn job core thread view = AreAll view (views_of job core thread) × IsTrue (lapses_alike core thread)
 
 pub record MayVote (job : Job) (core : Core) (thread count won : ℕ) (lost : Lost) (did : Did) : Type 0 where
   pub may : IsTrue (may_vote core thread)

@@ -1,8 +1,8 @@
 //! What the core does next, and how long threads have waited.
-ghost use Rattle.std.specs.Prelude.{◌≡◌, ◌<◌, ◌≤◌, ◌+◌, ◌^◌, ℕ, Some, slice_get, slice_set};
+ghost use Rattle.std.specs.Prelude.{◌≡◌, ◌<◌, ◌≤◌, ◌+◌, ◌^◌, ℕ, Option, Some, is_some, slice_get, slice_set};
+ghost use Rattle.ro_event.specs.declared.calls.Call.{Call};
 ghost use Rattle.ro_legal.specs.Waits.{AreWaits, waited_behind, is_overdue};
 
-use ro_event::Call;
 use ro_journal::How;
 use ro_limits::{MOST_THREADS, VOTES_IN_A_ROW};
 
@@ -51,14 +51,14 @@ impl Waits {
     }
 
     /// What an event of a thread makes of them, which is a free where the thread was blocked on a call, else a vote.
-    pub fn note(&mut self, thread: u32, blocked: Option<Call>)
+    pub fn note(&mut self, thread: u32, was_blocked: bool)
         requires few { self.old.votes + 1 < 2 ^ 64 }
         requires thread { thread < 16 }
-        ensures waits { (waited : ℕ → ℕ) → AreWaits self.old waited → AreWaits self.new (waited_behind waited thread blocked) }
+        ensures waits { (blocked : Option Call) → was_blocked ≡ is_some blocked → (waited : ℕ → ℕ) → AreWaits self.old waited → AreWaits self.new (waited_behind waited thread blocked) }
         ensures since { self.new.since ≡ slice_set self.old.since thread self.new.votes }
         ensures votes { (self.old.votes ≤ self.new.votes) × (self.new.votes ≤ self.old.votes + 1) }
     {
-        if blocked.is_none() {
+        if !was_blocked {
             self.votes += 1;
         }
         self.since[thread as usize] = self.votes;

@@ -137,9 +137,10 @@ pub fn waits_are_counted()
 
 /// A thread that has waited for 64 votes of others comes before each that waited for fewer than it did: where such a one is
 /// voted on next nothing can be done for the thread, and where such a one is lent next, and no scrub is due, the thread can't
-/// be voted on or lent. It holds of a core of either mode.
+/// be voted on or lent; and of those that can be freed such a one is not freed before it. It holds of a core of either mode.
 pub fn who_waited_comes_first()
     ensures vote { (job : Job) (core : Core) (thread : ℕ) → next_action job core ≡ act.Vote thread → (other : ℕ) → other < threads_made core → 64 ≤ core.waited other → core.waited thread < core.waited other → NothingFor job core other }
+    ensures free { (job : Job) (core : Core) (thread : ℕ) → next_action job core ≡ act.Free thread → (other : ℕ) → other < threads_made core → 64 ≤ core.waited other → core.waited thread < core.waited other → may_free job core other ≡ false }
     ensures lend { (job : Job) (core : Core) (replica thread : ℕ) → next_action job core ≡ act.Lend replica thread → is_scrub_due job core ≡ false → (other : ℕ) → other < threads_made core → 64 ≤ core.waited other → core.waited thread < core.waited other → (may_vote core other ≡ false) × NotLendable core other }
 {}
 

@@ -1,5 +1,5 @@
 -- Why a run, a plan, or the check of one ends as it does.
-use Rattle.std.specs.Prelude.{◌≡◌, ◌≢◌, ◌⊎◌, ⊤, ℕ, ◌+◌, ◌<◌, IsTrue, List, [], ◌∷◌, ◌++◌, length, take, Option, Some, None, slice_get}
+use Rattle.std.specs.Prelude.{◌≡◌, ◌≢◌, ◌⊎◌, ⊤, ℕ, ◌+◌, ◌<◌, IsTrue, false, List, [], ◌∷◌, ◌++◌, length, take, Option, Some, None, slice_get}
 use Rattle.ro_io.specs.Outside.{Rose, more}
 use Rattle.ro_event.specs.Views.{View}
 use Rattle.ro_journal.specs.declared.How.{How}
@@ -14,6 +14,7 @@ use Rattle.ro_vote.specs.Prevails.{NonePrevails}
 use Rattle.ro_replica.specs.Snapshots.{Snapshot}
 use Rattle.ro_legal.specs.Core.{Job, may_vote, may_free, snapshots_of}
 use Rattle.ro_legal.specs.Legal.{is_stuck, EndsFree}
+use Rattle.ro_legal.specs.Cooperative.{lapses_alike}
 use Rattle.ro_legal.specs.Modes.{Mode, InMode}
 use Rattle.ro_legal.specs.Rules.{EndsVote, replay}
 use Rattle.ro_machine.specs.Lengths.{IsTooLong as IsLongPlan, IsLength}
@@ -73,6 +74,12 @@ pub record AreUnequal (job : Job) (journal : List Entry) (views : List View) : T
   pub other_there : slice_get views another ≡ Some other
   pub differ : one ≢ other
 
+-- In a cooperative run the replicas of a vote do not leave the same of its thread's reservation: one has ended it by a call that it
+-- answered, and another has not.
+pub record LapseUnlike (job : Job) (journal : List Entry) (views : List View) : Type 0 where
+  pub shows : ShowsLast job journal views
+  pub unlike : lapses_alike (replay job shows.before) shows.thread ≡ false
+
 -- Two replicas that a scrub compared, which are not equal. No thread was voted on, so there are no views.
 pub record AreTwoWhole (job : Job) (journal : List Entry) (views : List View) : Type 0 where
   pub scrubs : ScrubsLast job journal views
@@ -107,7 +114,7 @@ pub record CutsWrite (job : Job) (journal : List Entry) (taken : ℕ) : Type 0 w
 -- answer.
 abbrev pub EndCause : Job → List Entry → (views : List View) → (before after sure : ℕ) → Answer → Type 0
 EndCause job journal views before after sure Deadlock = IsStuck job journal
-EndCause job journal views before after sure Differ = InMode job.settings.mode (AreTwo job journal views ⊎ AreTwoWhole job journal views) (AreUnequal job journal views)
+EndCause job journal views before after sure Differ = InMode job.settings.mode (AreTwo job journal views ⊎ AreTwoWhole job journal views) (AreUnequal job journal views ⊎ LapseUnlike job journal views)
 EndCause job journal views before after sure NoMajority = InMode job.settings.mode (AreSplit job journal views ⊎ AreSplitWhole job journal views) ⊥
 EndCause job journal views before after sure (Limit steps next) = EndsAtLimit job journal steps next
 EndCause job journal views before after sure (SinkFailed taken) = CutsWrite job journal taken × Rose before after × (sure < length (offered_by job journal))

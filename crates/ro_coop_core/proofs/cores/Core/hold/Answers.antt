@@ -7,6 +7,8 @@ use Rattle.ro_journal.specs.declared.How.TheVariants.{Limit}
 use Rattle.ro_journal.specs.declared.losers.Lost.TheVariants.{Nobody}
 use Rattle.ro_event.specs.Views.{View}
 use Rattle.ro_serving.specs.Happening.{IsCause}
+use Rattle.ro_kernel.specs.Kernel.{lives_on}
+use Rattle.ro_kernel.specs.State.{State}
 use Rattle.ro_legal.specs.Core.{Core, may_vote}
 use Rattle.ro_legal.specs.Event.{Event}
 use Rattle.ro_legal.specs.Cooperative.{IsAllowed, MayVote, PassesLimit, for_vote}
@@ -21,8 +23,8 @@ use Rattle.ro_coop_core.specs.Amid.{newcomer_of}
 use Rattle.ro_coop_core.proofs.Concludes.{ended-wrote}
 use Rattle.ro_coop_core.proofs.Makes.{agreed-room, same-state}
 use Rattle.ro_coop_core.proofs.Lapsing.{came-back}
-use Rattle.ro_coop_core.proofs.Serving.{before-room, job-with, lapse-setup, lapse-steps, lapse-limit, lapse-amid, lapse-failed, lapse-room, lapse-event}
-use Rattle.ro_coop_core.proofs.Votes.{hold-alone, hold-not-over, hold-within, hold-steps, hold-first, hold-there, hold-allowed, hold-passes, hold-can}
+use Rattle.ro_coop_core.proofs.Serving.{before-room, job-with, lapse-setup, lapse-live, lapse-steps, lapse-limit, lapse-amid, lapse-failed, lapse-room, lapse-event}
+use Rattle.ro_coop_core.proofs.Votes.{hold-alone, hold-live, hold-not-over, hold-within, hold-steps, hold-first, hold-there, hold-allowed, hold-passes, hold-can}
 use Rattle.ro_coop_core.proofs.cores.Core.hold.Goals as goal
 
 pub index-requires : goal.index-requires
@@ -104,6 +106,19 @@ returns-then-self-steps-clause-wrote c =
     subst (λ (b : Bool). LastWrote (fields_of c.stop_at_limit.new.self) (state_of c.args.self.now).output (payload_by c.stop_at_limit.new.self.views.items b)) (sym (ap (λ (x : Voted). x.writes) c.stop_at_limit.ensures.voted))
     (subst (λ (xs : List ℕ). LastWrote (fields_of c.stop_at_limit.new.self) xs []) output
     (ended-wrote c.revive.new.self c.stop_at_limit.new.self (Limit c.revive.new.self.steps c.steps-steps.result) c.stop_at_limit.ensures.appends c.stop_at_limit.ensures.output))
+
+pub happen-requires : goal.happen-requires
+happen-requires c =
+    let before = c.prepare.new.self in
+    let v = agreed-room (fields_of c.args.self.now) (fields_of before) c.args.thread c.requires.agreed.0 c.requires.agreed.1 c.prepare.ensures.makes in
+    lapse-live before c.lapse-reservation.new.self c.args.thread v.holds (hold-alone (fields_of before) c.args.thread c.requires.agreed.0 v) c.lapse-reservation.ensures.core (hold-live (fields_of before) c.args.thread c.requires.agreed.0 v)
+
+pub revive-requires-in-Err : goal.revive-requires-in-Err
+revive-requires-in-Err c =
+    let before = c.prepare.new.self in
+    let v = agreed-room (fields_of c.args.self.now) (fields_of before) c.args.thread c.requires.agreed.0 c.requires.agreed.1 c.prepare.ensures.makes in
+    ap (λ (k : State). lives_on k.kernel c.args.thread) c.in-Err.ensures.err
+    ∙ lapse-live before c.lapse-reservation.new.self c.args.thread v.holds (hold-alone (fields_of before) c.args.thread c.requires.agreed.0 v) c.lapse-reservation.ensures.core (hold-live (fields_of before) c.args.thread c.requires.agreed.0 v)
 
 pub returns-in-Err-clause-holds : goal.returns-in-Err-clause-holds
 returns-in-Err-clause-holds c =

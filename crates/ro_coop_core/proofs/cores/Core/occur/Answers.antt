@@ -12,8 +12,8 @@ use Rattle.ro_coop_core.proofs.cores.Core.occur.Goals as goal
 pub bounds-self-thread : goal.bounds-self-thread
 bounds-self-thread c = occurs-few _ _ c.requires.can
 
-pub bounds-self-thread-2 : goal.bounds-self-thread-2
-bounds-self-thread-2 c = occurs-few _ _ c.requires.can
+pub is_blocked-was_blocked-requires : goal.is_blocked-was_blocked-requires
+is_blocked-was_blocked-requires c = occurs-few _ _ c.requires.can
 
 pub note-requires-clause-few : goal.note-requires-clause-few
 note-requires-clause-few c = let votes = occurs-votes _ _ c.requires.can in let room = occurs-places _ _ c.requires.can in omega arith
@@ -50,7 +50,7 @@ returns-clause-holds c =
     let new = subst (λ (e : Option Entering). AreHome job after (replicas_after effect (entered_of e) core.replicas core.sides) (map (side_served thread (entered_of e)) core.sides) c.occur_in_all.new.seats) c.entering-entering.ensures (c.occur_in_all.ensures job core.kernel after core.replicas core.sides (occurs-given _ _ can) (occurs-ranked _ _ can) old) in
     let items = with_items_is c.args.self.now.seats c.occur_in_all.new.seats (occurs-many _ _ can c.occur_in_all.new.seats new ∙ ap length (sym c.as_mut_slice.ensures.value) ∙ c.as_mut_slice.ensures.len) in
     occurs-holds _ _ can _ (occurs-job _ _ can) (c.push_reserved.ensures.items ∙ ap (λ (x : Run). x.journal.items ++ c.args.noted.now.entry ∷ []) can.is) refl
-    (subst (AreHome job after _ _) (sym items) new) refl refl refl refl refl refl (record { waits = c.note.ensures.waits; since = c.note.ensures.since; least = c.note.ensures.votes.0; most = c.note.ensures.votes.1 }) refl refl (ap (λ xs. c.args.self.now.sent + length xs) c.payload-written.ensures) (ap (λ xs. length xs) c.payload-written.ensures)
+    (subst (AreHome job after _ _) (sym items) new) refl refl refl refl refl refl (record { waits = c.note.ensures.waits _ c.is_blocked-was_blocked.ensures; since = c.note.ensures.since; least = c.note.ensures.votes.0; most = c.note.ensures.votes.1 }) refl refl (ap (λ xs. c.args.self.now.sent + length xs) c.payload-written.ensures) (ap (λ xs. length xs) c.payload-written.ensures)
     (let room = occurs-places _ _ can in omega (arith, room, c.push_reserved.ensures.len, c.push_reserved.ensures.capacity))
 
 pub returns-clause-wrote : goal.returns-clause-wrote

@@ -3,7 +3,7 @@ use Rattle.std.proofs.lemmas.List.{with_items_is}
 use Rattle.ro_legal.specs.Core.{Job}
 use Rattle.ro_core.specs.Wishing.{Forgives}
 use Rattle.ro_core.specs.Fields.{core_in}
-use Rattle.ro_core.proofs.Occurring.{occurs-few, occurs-given, occurs-can, occurs-thread, occurs-threads, occurs-seats, occurs-steps, occurs-short, occurs-sent, occurs-unblocked, occurs-votes, occurs-calm, occurs-holds, occurs-wrote}
+use Rattle.ro_core.proofs.Occurring.{unblocked, occurs-few, occurs-given, occurs-can, occurs-thread, occurs-threads, occurs-seats, occurs-steps, occurs-short, occurs-sent, occurs-unblocked, occurs-votes, occurs-calm, occurs-holds, occurs-wrote}
 use Rattle.ro_core.proofs.cores.Core.occur.Goals as goal
 
 pub apply-requires-clause-few : goal.apply-requires-clause-few
@@ -24,11 +24,11 @@ apply-requires-clause-threads c = occurs-threads _ _ c.requires.can
 pub bounds-self-thread : goal.bounds-self-thread
 bounds-self-thread c = occurs-few _ _ c.requires.can
 
-pub bounds-self-thread-2 : goal.bounds-self-thread-2
-bounds-self-thread-2 c = occurs-few _ _ c.requires.can
+pub is_blocked-was_blocked-requires : goal.is_blocked-was_blocked-requires
+is_blocked-was_blocked-requires c = occurs-few _ _ c.requires.can
 
 pub unblocked_behind-self-requires : goal.unblocked_behind-self-requires
-unblocked_behind-self-requires c = λ e. occurs-unblocked _ _ c.requires.can (c.leaves_blocked-stays.ensures e)
+unblocked_behind-self-requires c = λ e. let stays = c.leaves_blocked-stays.ensures e in occurs-unblocked _ _ c.requires.can (stays.0, stays.1, unblocked _ _ c.is_blocked-was_blocked.ensures stays.2)
 
 pub note-requires-clause-few : goal.note-requires-clause-few
 note-requires-clause-few c = let votes = occurs-votes _ _ c.requires.can in let room = c.requires.can.amid.room in omega arith
@@ -37,7 +37,7 @@ pub note-requires-clause-thread : goal.note-requires-clause-thread
 note-requires-clause-thread c = occurs-few _ _ c.requires.can
 
 pub calm_behind-self-requires : goal.calm_behind-self-requires
-calm_behind-self-requires c = λ e. occurs-calm _ _ c.requires.can c.note.new.self (record { waits = c.note.ensures.waits; since = c.note.ensures.since; least = c.note.ensures.votes.0; most = c.note.ensures.votes.1 }) (c.leaves_blocked-stays.ensures e)
+calm_behind-self-requires c = λ e. occurs-calm _ _ c.requires.can c.note.new.self (record { waits = c.note.ensures.waits _ c.is_blocked-was_blocked.ensures; since = c.note.ensures.since; least = c.note.ensures.votes.0; most = c.note.ensures.votes.1 }) (let stays = c.leaves_blocked-stays.ensures e in (stays.0, stays.1, unblocked _ _ c.is_blocked-was_blocked.ensures stays.2))
 
 pub push_reserved-requires : goal.push_reserved-requires
 push_reserved-requires c = let room = c.requires.can.amid.room in omega arith
@@ -62,7 +62,7 @@ returns-clause-holds c =
       lanes = can.amid.lanes;
       wishes = subst (λ ws. Forgives c.args.noted.now.thread can.before.job.settings.replicas can.before.wishes ws) (sym wishes) (subst (λ (n : ℕ). Forgives c.args.noted.now.thread n can.before.wishes c.forgive.new.wishes) (ap (λ (j : Job). j.settings.replicas) can.amid.job)
           (subst (λ ws. Forgives c.args.noted.now.thread c.args.self.now.settings.replicas ws c.forgive.new.wishes) can.amid.wishes (subst (λ ws. Forgives c.args.noted.now.thread c.args.self.now.settings.replicas ws c.forgive.new.wishes) c.as_mut_slice.ensures.value c.forgive.ensures)));
-    }) refl refl c.unblocked_behind-self.ensures c.calm_behind-self.ensures refl refl (record { waits = c.note.ensures.waits; since = c.note.ensures.since; least = c.note.ensures.votes.0; most = c.note.ensures.votes.1 }) can.amid.ended can.amid.views (ap (λ xs. c.args.self.now.sent + length xs) c.payload-written.ensures) (ap (λ xs. length xs) c.payload-written.ensures) (let room = can.amid.room in omega (arith, c.push_reserved.ensures.len, c.push_reserved.ensures.capacity))
+    }) refl refl c.unblocked_behind-self.ensures c.calm_behind-self.ensures refl refl (record { waits = c.note.ensures.waits _ c.is_blocked-was_blocked.ensures; since = c.note.ensures.since; least = c.note.ensures.votes.0; most = c.note.ensures.votes.1 }) can.amid.ended can.amid.views (ap (λ xs. c.args.self.now.sent + length xs) c.payload-written.ensures) (ap (λ xs. length xs) c.payload-written.ensures) (let room = can.amid.room in omega (arith, c.push_reserved.ensures.len, c.push_reserved.ensures.capacity))
 
 pub returns-clause-wrote : goal.returns-clause-wrote
 returns-clause-wrote c = let can = c.requires.can in occurs-wrote _ _ can _ can.amid.job (c.push_reserved.ensures.items ∙ ap (λ js. js ++ c.args.noted.now.entry ∷ []) can.amid.journal) refl

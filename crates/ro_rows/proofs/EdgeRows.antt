@@ -41,14 +41,14 @@ use Rattle.ro_simulation.specs.Drives.{driven}
 use Rattle.ro_simulation.proofs.Checks.{test_legal, legal-by-test}
 use Rattle.ro_rows.specs.Exit.{exit_job}
 use Rattle.ro_rows.specs.Rows.{decisions, deadlock_job, deadlock_before, hello_job}
-use Rattle.ro_rows.specs.Edges.{small_job, waiters_job, two_wait, unlocked, letter_job, all_hits, is_vote, page_limit_job, before_free, exit_runs, until_free, scrubbing, one_runs, one_lent, both_stand, last_lent, parted_job, parted_runs, parted_pair, hello_written, watch_job, watch_journal, with_waits, votes_of}
+use Rattle.ro_rows.specs.Edges.{small_job, waiters_job, two_wait, unlocked, letter_job, all_hits, is_vote, page_limit_job, before_free, exit_runs, until_free, scrubbing, one_runs, one_lent, both_stand, last_lent, parted_job, parted_runs, parted_pair, hello_written, watch_job, watch_journal, with_waits, with_three_waits, votes_of}
 
 -- a run that does not exist
 no-machine : {P : Type 0} (machine : Machine) (o : Option Machine) → o ≡ Some machine → o ≡ None → P
 no-machine machine o e f = absurd (let g : None ≡ Some machine = sym f ∙ e in cc)
 
 -- an end that neither is due, nor comes alone, nor in the place of a vote, a free or a scrub
-no-end : (job : Job) (core : Core) (how : How) → core.due ≡ None → (EndsAlone job core how → ⊥) → ((thread : ℕ) → EndsVote job core thread how → ⊥) → (EndsFree job core how → ⊥) → (EndsScrub core how → ⊥) → MayEnd job core how → ⊥
+pub no-end : (job : Job) (core : Core) (how : How) → core.due ≡ None → (EndsAlone job core how → ⊥) → ((thread : ℕ) → EndsVote job core thread how → ⊥) → (EndsFree job core how → ⊥) → (EndsScrub core how → ⊥) → MayEnd job core how → ⊥
 no-end job core how none a v f s (due e) = absurd (let g : None ≡ Some how = sym none ∙ e in cc)
 no-end job core how none a v f s (alone e) = a e
 no-end job core how none a v f s (for_vote thread may e) = v thread e
@@ -261,6 +261,26 @@ waiters-may-too = refl
 pub waiters-lowest : next_action waiters_job (replay waiters_job unlocked) ≡ act.Free 1
 unfolding opening_core sharing_of opening_replica struck execute applied cancelled recovered verdict_of event_of after next_action first_cpu made_cpu next fetch_stop instruction_stop instruction_of call_at permits_of alu_of taken_by meaning serve payload_of
 waiters-lowest = refl
+
+pub waiters-early : next_action waiters_job (with_three_waits 0 0 63 (replay waiters_job unlocked)) ≡ act.Free 1
+unfolding opening_core sharing_of opening_replica struck execute applied cancelled recovered verdict_of event_of after next_action first_cpu made_cpu next fetch_stop instruction_stop instruction_of call_at permits_of alu_of taken_by meaning serve payload_of
+waiters-early = refl
+
+pub waiters-overdue : next_action waiters_job (with_three_waits 0 63 64 (replay waiters_job unlocked)) ≡ act.Free 2
+unfolding opening_core sharing_of opening_replica struck execute applied cancelled recovered verdict_of event_of after next_action first_cpu made_cpu next fetch_stop instruction_stop instruction_of call_at permits_of alu_of taken_by meaning serve payload_of
+waiters-overdue = refl
+
+pub waiters-longer : next_action waiters_job (with_three_waits 0 64 65 (replay waiters_job unlocked)) ≡ act.Free 2
+unfolding opening_core sharing_of opening_replica struck execute applied cancelled recovered verdict_of event_of after next_action first_cpu made_cpu next fetch_stop instruction_stop instruction_of call_at permits_of alu_of taken_by meaning serve payload_of
+waiters-longer = refl
+
+pub waiters-shorter : next_action waiters_job (with_three_waits 0 65 64 (replay waiters_job unlocked)) ≡ act.Free 1
+unfolding opening_core sharing_of opening_replica struck execute applied cancelled recovered verdict_of event_of after next_action first_cpu made_cpu next fetch_stop instruction_stop instruction_of call_at permits_of alu_of taken_by meaning serve payload_of
+waiters-shorter = refl
+
+pub waiters-alike : next_action waiters_job (with_three_waits 0 64 64 (replay waiters_job unlocked)) ≡ act.Free 1
+unfolding opening_core sharing_of opening_replica struck execute applied cancelled recovered verdict_of event_of after next_action first_cpu made_cpu next fetch_stop instruction_stop instruction_of call_at permits_of alu_of taken_by meaning serve payload_of
+waiters-alike = refl
 
 pub waiters-then-waits : may_free waiters_job (replay waiters_job (unlocked ++ Free 1 ∷ [])) 2 ≡ false
 unfolding opening_core sharing_of opening_replica struck execute applied cancelled recovered verdict_of event_of after next_action first_cpu made_cpu next fetch_stop instruction_stop instruction_of call_at permits_of alu_of taken_by meaning serve payload_of

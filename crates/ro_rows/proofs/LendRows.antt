@@ -1,12 +1,16 @@
 -- Leases that have a few pages of their replica, by computation.
-use Rattle.std.specs.Prelude.{◌≡◌, IsSome, Bool, true, false, [], ◌∷◌, ◌++◌, Option, Some, None, is_none}
+use Rattle.std.specs.Prelude.{◌≡◌, IsSome, Bool, true, false, [], ◌∷◌, ◌++◌, map, Option, Some, None, is_none}
 use Rattle.std.specs.Option.{option_map}
 use Rattle.std.proofs.Common.{refl, sym, ap, ◌∙◌, inl, inr, arith}
 use Rattle.std.proofs.lemmas.Bool.{true≢false}
-use Rattle.std.proofs.Math.Dec.{lit<}
+use Rattle.std.proofs.Math.Dec.{lit<, lit≤}
 use Rattle.ro_journal.specs.Leases.{lease_to}
 use Rattle.ro_journal.specs.declared.Lease.{Lease}
-use Rattle.ro_journal.specs.declared.Entry.TheVariants.{Take, Put, Part}
+use Rattle.ro_journal.specs.declared.Entry.TheVariants.{Take, Put, Part, Vote}
+use Rattle.ro_journal.specs.declared.losers.Lost.TheVariants.{Nobody}
+use Rattle.ro_journal.specs.declared.Did.TheVariants.{Served}
+use Rattle.ro_kernel.specs.Kernel.{lives_on}
+use Rattle.ro_replica.specs.Views.{is_unstopped}
 use Rattle.ro_decode.specs.Table.{instruction_of}
 use Rattle.ro_event.specs.Table.{call_at}
 use Rattle.ro_region.specs.Permission.{permits_of}
@@ -24,7 +28,7 @@ use Rattle.ro_legal.specs.Core.{Job, Core, sharing_of, opening_core, lent_to, is
 use Rattle.ro_legal.specs.Event.{event_of}
 use Rattle.ro_legal.specs.Legal.{HasArrived, IsAllowed, wanted_by, after}
 use Rattle.ro_legal.specs.Action.{next_action}
-use Rattle.ro_rows.specs.Lending.{storing_job, struck_job, lending_job, one_driver_job, behind_in, behind, parts, first_out, second_parted, second_waits, missed_by}
+use Rattle.ro_rows.specs.Lending.{storing_job, struck_job, lending_job, one_driver_job, behind_in, behind, parts, first_out, exits_beside, one_exited, second_parted, second_waits, missed_by}
 use Rattle.ro_rows.proofs.EdgeRows.{hit-is}
 
 -- whether the thread of a run wants a page
@@ -162,3 +166,25 @@ part-early h = not-some _ (wants-is lending_job (behind first_out) (lease_to 0 0
 pub part-struck : IsAllowed lending_job (behind first_out) (Put (lease_to 0 0 0) 4 1) → ⊥
 unfolding opening_core sharing_of opening_replica struck execute applied cancelled recovered verdict_of event_of after next_action first_cpu made_cpu next fetch_stop instruction_stop instruction_of call_at permits_of alu_of taken_by meaning serve payload_of
 part-struck h = let f : h.returns.ran.hit ≡ 0 = hit-is _ h.returns.ran 0 h.returns.runs refl in let g : h.returns.ran.hit ≡ 1 = h.returns.struck in omega arith
+
+-- ---- exited_row
+
+pub exited-beside : lent_to (behind []) 0 0 ≡ Pages []
+unfolding opening_core sharing_of opening_replica struck execute applied cancelled recovered verdict_of event_of after next_action first_cpu made_cpu next fetch_stop instruction_stop instruction_of call_at permits_of alu_of taken_by meaning serve payload_of
+exited-beside = refl
+
+pub exited-allowed : IsAllowed lending_job (behind exits_beside) (Vote 1 4 0 Nobody Served)
+unfolding opening_core sharing_of opening_replica struck execute applied cancelled recovered verdict_of event_of after next_action first_cpu made_cpu next fetch_stop instruction_stop instruction_of call_at permits_of alu_of taken_by meaning serve payload_of
+exited-allowed = record { may = refl; verdict = refl; count_is = refl; event = _; comes = refl; did_is = refl; fits = lit≤ tt }
+
+pub exited-exited : lives_on (behind one_exited).kernel 1 ≡ false
+unfolding opening_core sharing_of opening_replica struck execute applied cancelled recovered verdict_of event_of after next_action first_cpu made_cpu next fetch_stop instruction_stop instruction_of call_at permits_of alu_of taken_by meaning serve payload_of
+exited-exited = refl
+
+pub exited-no-stop : map (is_unstopped 1) (behind one_exited).replicas ≡ true ∷ true ∷ true ∷ []
+unfolding opening_core sharing_of opening_replica struck execute applied cancelled recovered verdict_of event_of after next_action first_cpu made_cpu next fetch_stop instruction_stop instruction_of call_at permits_of alu_of taken_by meaning serve payload_of
+exited-no-stop = refl
+
+pub exited-whole : map (λ replica. lent_to (behind one_exited) replica 0) (0 ∷ 1 ∷ 2 ∷ []) ≡ Whole ∷ Whole ∷ Whole ∷ []
+unfolding opening_core sharing_of opening_replica struck execute applied cancelled recovered verdict_of event_of after next_action first_cpu made_cpu next fetch_stop instruction_stop instruction_of call_at permits_of alu_of taken_by meaning serve payload_of
+exited-whole = refl

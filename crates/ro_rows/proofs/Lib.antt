@@ -13,6 +13,7 @@ mod WriteRows
 mod OtherRows
 mod OrderRows
 mod EdgeRows
+mod ScrubRows
 mod LendRows
 mod TableRows
 mod RaceRows
@@ -20,3 +21,4 @@ mod FiveRow
 mod HiddenRow
 mod NineRow
 mod SharedRow
+mod CooperativeRows

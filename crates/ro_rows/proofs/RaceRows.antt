@@ -15,9 +15,19 @@ use Rattle.ro_plain.proofs.Calls.{some-injective}
 use Rattle.ro_plain.specs.Accesses.{accesses}
 use Rattle.ro_plain.specs.Order.{Unlocks, Locks, Makes, Joins, Exits, Updates, Observes, Nothing, sync_of, sync_at, accesses_at, HappensBefore, in_thread, by_mutex, by_word, by_creation, by_join, chain, RaceFree}
 use Rattle.ro_simulation.specs.Guests.{locking_guest}
+use Rattle.ro_simulation.specs.Drives.{driven}
+use Rattle.ro_journal.specs.Plan.{plan_of}
+use Rattle.ro_vote.specs.Verdict.{verdict_of}
+use Rattle.ro_replica.specs.Replica.{opening_replica, applied, cancelled, recovered}
+use Rattle.ro_replica.specs.Runs.{struck, execute}
+use Rattle.ro_legal.specs.Core.{sharing_of, opening_core}
+use Rattle.ro_legal.specs.Event.{event_of}
+use Rattle.ro_legal.specs.Legal.{after}
+use Rattle.ro_legal.specs.Action.{next_action}
 use Rattle.ro_plain.proofs.Explore.{explored-free, stays-in}
-use Rattle.ro_rows.specs.Guests.{atomic_guest}
-use Rattle.ro_rows.specs.Order.{syncs_from, bytes, none, calls_guest, calls_plan, atomics_guest, beside_guest, own_word_guest, adding_plan, racing_guest, racing_plan, created_guest, joined_guest, locked_guest, two_mutexes_guest, two_mutexes_plan, creations_plan, exits_plan}
+use Rattle.ro_rows.specs.Guests.{atomic_guest, waiting_guest}
+use Rattle.ro_rows.specs.Rows.{waiting_job}
+use Rattle.ro_rows.specs.Order.{syncs_from, bytes, none, calls_guest, calls_plan, atomics_guest, beside_guest, own_word_guest, looking_guest, adding_plan, looking_plan, waiting_plan, mapping_guest, racing_guest, racing_plan, created_guest, joined_guest, locked_guest, two_mutexes_guest, two_mutexes_plan, creations_plan, exits_plan}
 
 -- from a step that means nothing, the last of its thread, no step follows
 none-from : (program : Program) (threads : List ℕ) (i : ℕ) → sync_at program threads i ≡ Nothing → ((j : ℕ) → i < j → slice_get threads i ≡ slice_get threads j → ⊥) → (j : ℕ) → HappensBefore program threads i j → ⊥
@@ -165,3 +175,73 @@ unordered-other-mutex h = let e : false ≡ true = stays-in two_mutexes_guest tw
 pub unordered-races : RaceFree two_mutexes_guest → ⊥
 unfolding opening sync_of accesses steppable step first_cpu made_cpu next fetch_stop instruction_stop instruction_of call_at permits_of alu_of taken_by meaning serve payload_of
 unordered-races h = unordered-other-mutex (h two_mutexes_plan (_, refl) 9 15 0x100A8 (lit< tt) (lit< tt) (λ e. let f : Some 0 ≡ Some 1 = e in cc) refl)
+
+-- ---- wait_row
+
+pub wait-plan : plan_of (driven 200 waiting_job) ≡ waiting_plan
+unfolding opening_core sharing_of opening_replica struck execute applied cancelled recovered verdict_of event_of after next_action first_cpu made_cpu next fetch_stop instruction_stop instruction_of call_at permits_of alu_of taken_by meaning serve payload_of
+wait-plan = refl
+
+pub wait-syncs : syncs_from waiting_guest waiting_plan 0 39 ≡ replicate 3 Nothing ++ Locks 0x11000 ∷ replicate 6 Nothing ++ Makes 1 ∷ replicate 3 Nothing ++ Unlocks 0x11000 ∷ replicate 3 Nothing ++ Locks 0x11000 ∷ replicate 5 Nothing ++ Unlocks 0x11000 ∷ Locks 0x11000 ∷ replicate 2 Nothing ++ Unlocks 0x11000 ∷ replicate 5 Nothing ++ Exits ∷ Joins 1 ∷ replicate 3 Nothing
+unfolding opening sync_of accesses steppable step first_cpu made_cpu next fetch_stop instruction_stop instruction_of word_of call_at permits_of alu_of amo_of taken_by meaning serve payload_of
+wait-syncs = refl
+
+pub wait-first : accesses_at waiting_guest waiting_plan 14 ≡ record { reads = none ∷ []; writes = []; atomic = [] }
+unfolding opening sync_of accesses steppable step first_cpu made_cpu next fetch_stop instruction_stop instruction_of word_of call_at permits_of alu_of amo_of taken_by meaning serve payload_of
+wait-first = refl
+
+pub wait-second : accesses_at waiting_guest waiting_plan 25 ≡ record { reads = none ∷ []; writes = none ∷ []; atomic = [] }
+unfolding opening sync_of accesses steppable step first_cpu made_cpu next fetch_stop instruction_stop instruction_of word_of call_at permits_of alu_of amo_of taken_by meaning serve payload_of
+wait-second = refl
+
+pub wait-signal : accesses_at waiting_guest waiting_plan 21 ≡ record { reads = none ∷ []; writes = none ∷ []; atomic = [] }
+unfolding opening sync_of accesses steppable step first_cpu made_cpu next fetch_stop instruction_stop instruction_of word_of call_at permits_of alu_of amo_of taken_by meaning serve payload_of
+wait-signal = refl
+
+pub wait-before-wait : HappensBefore waiting_guest waiting_plan 13 18
+unfolding opening sync_of accesses steppable step first_cpu made_cpu next fetch_stop instruction_stop instruction_of word_of call_at permits_of alu_of amo_of taken_by meaning serve payload_of
+wait-before-wait = chain (in_thread {i = 13} {j = 14} 0 (lit< tt) refl refl) (by_mutex 0x11000 (lit< tt) refl refl)
+
+pub wait-behind-wait : HappensBefore waiting_guest waiting_plan 20 26
+unfolding opening sync_of accesses steppable step first_cpu made_cpu next fetch_stop instruction_stop instruction_of word_of call_at permits_of alu_of amo_of taken_by meaning serve payload_of
+wait-behind-wait = chain (in_thread {i = 20} {j = 24} 1 (lit< tt) refl refl) (chain (by_mutex {i = 24} {j = 25} 0x11000 (lit< tt) refl refl) (in_thread 0 (lit< tt) refl refl))
+
+-- ---- mapping_row
+
+pub mapping-syncs : syncs_from mapping_guest (replicate 10 0) 0 10 ≡ replicate 10 Nothing
+unfolding opening sync_of accesses steppable step first_cpu made_cpu next fetch_stop instruction_stop instruction_of word_of call_at permits_of alu_of amo_of taken_by meaning serve payload_of
+mapping-syncs = refl
+
+pub mapping-given : accesses_at mapping_guest (replicate 10 0) 5 ≡ record { reads = none ∷ bytes 0x10068 4 ∷ []; writes = none ∷ bytes 0x50000000 0x2000 ∷ []; atomic = [] }
+unfolding opening sync_of accesses steppable step first_cpu made_cpu next fetch_stop instruction_stop instruction_of word_of call_at permits_of alu_of amo_of taken_by meaning serve payload_of
+mapping-given = refl
+
+pub mapping-refused : accesses_at mapping_guest (replicate 10 0) 7 ≡ record { reads = none ∷ bytes 0x10070 4 ∷ []; writes = none ∷ []; atomic = [] }
+unfolding opening sync_of accesses steppable step first_cpu made_cpu next fetch_stop instruction_stop instruction_of word_of call_at permits_of alu_of amo_of taken_by meaning serve payload_of
+mapping-refused = refl
+
+pub mapping-store : accesses_at mapping_guest (replicate 10 0) 9 ≡ record { reads = none ∷ bytes 0x10078 4 ∷ []; writes = bytes 0x50001FFF 1 ∷ []; atomic = [] }
+unfolding opening sync_of accesses steppable step first_cpu made_cpu next fetch_stop instruction_stop instruction_of word_of call_at permits_of alu_of amo_of taken_by meaning serve payload_of
+mapping-store = refl
+
+-- ---- looks_row
+
+pub looks-syncs : syncs_from looking_guest adding_plan 6 3 ≡ Updates 0x10084 ∷ Nothing ∷ Observes 0x10084 ∷ []
+unfolding opening sync_of accesses steppable step first_cpu made_cpu next fetch_stop instruction_stop instruction_of word_of call_at permits_of alu_of amo_of taken_by meaning serve payload_of
+looks-syncs = refl
+
+pub looks-update : HappensBefore looking_guest adding_plan 6 8
+unfolding opening sync_of accesses steppable step first_cpu made_cpu next fetch_stop instruction_stop instruction_of word_of call_at permits_of alu_of amo_of taken_by meaning serve payload_of
+looks-update = by_word 0x10084 (lit< tt) refl refl
+
+pub looks-before-it : HappensBefore looking_guest adding_plan 0 8
+unfolding opening sync_of accesses steppable step first_cpu made_cpu next fetch_stop instruction_stop instruction_of word_of call_at permits_of alu_of amo_of taken_by meaning serve payload_of
+looks-before-it = chain (in_thread {i = 0} {j = 6} 0 (lit< tt) refl refl) (by_word 0x10084 (lit< tt) refl refl)
+
+pub looks-looks-first : syncs_from looking_guest looking_plan 7 2 ≡ Observes 0x10084 ∷ Updates 0x10084 ∷ []
+unfolding opening sync_of accesses steppable step first_cpu made_cpu next fetch_stop instruction_stop instruction_of word_of call_at permits_of alu_of amo_of taken_by meaning serve payload_of
+looks-looks-first = refl
+
+pub looks-look : HappensBefore looking_guest looking_plan 7 8 → ⊥
+unfolding opening sync_of accesses steppable step first_cpu made_cpu next fetch_stop instruction_stop instruction_of word_of call_at permits_of alu_of amo_of taken_by meaning serve payload_of
+looks-look h = let e : false ≡ true = stays-in looking_guest looking_plan _ refl (λ place. place == 7) refl 7 8 h refl in cc

@@ -9,7 +9,7 @@ use Rattle.ro_event.specs.declared.stops.Stop.TheVariants.{Trap}
 use Rattle.ro_event.specs.Traps.{number_of, causes}
 use Rattle.ro_event.specs.Functions.{names}
 use Rattle.ro_event.specs.Table.{call_at}
-use Rattle.ro_region.specs.declared.Kind.TheVariants.{Write, Execute}
+use Rattle.ro_region.specs.declared.Kind.TheVariants.{Read, Write, Execute}
 use Rattle.ro_region.specs.Permission.{permits_of}
 use Rattle.ro_elf.specs.Elf.{bad_headers}
 use Rattle.ro_elf.specs.Numbers.{half_in, word_in}
@@ -22,11 +22,12 @@ use Rattle.ro_settings.specs.Ranges.{default_settings}
 use Rattle.ro_exec.specs.Meaning.{meaning}
 use Rattle.ro_exec.specs.Next.{Stands, fetch_stop, instruction_stop, next}
 use Rattle.ro_exec.specs.Threads.{first_cpu, made_cpu}
+use Rattle.ro_journal.specs.declared.How.TheVariants.{Exit as ExitHow}
 use Rattle.ro_kernel.specs.declared.Life.TheVariants.{Live}
 use Rattle.ro_kernel.specs.Serve.{serve, payload_of}
 use Rattle.ro_simulation.specs.Guests.{exit_guest}
 use Rattle.ro_rows.specs.Exit.{exit_file}
-use Rattle.ro_rows.specs.Tables.{instructions, assembled, results, updates, changed, header, two_headers, strings, function, standing_symbols, address_named, four, kernel_with, two_held, unheld, answer, next_of}
+use Rattle.ro_rows.specs.Tables.{instructions, assembled, results, updates, changed, header, two_headers, strings, function, standing_symbols, address_named, four, kernel_with, two_held, unheld, answer, answer_in, mmap, brk, system, kernel_behind, served_of, answers_of, ranges_behind, two_mapped, end_of, function_call, on_words, number_of_thread, next_of}
 
 -- ---- instructions_row
 
@@ -161,3 +162,83 @@ threads-heap = refl
 pub threads-none-executes : permits_of exit_guest.image.ranges Execute 0x11000 4 ∷ permits_of exit_guest.image.ranges Execute 0x70000000 4 ∷ permits_of exit_guest.image.ranges Write 0x10000 4 ∷ [] ≡ false ∷ false ∷ false ∷ []
 unfolding first_cpu made_cpu permits_of
 threads-none-executes = refl
+
+-- ---- mmap_row
+
+pub mmap-errors : map (λ call. answer_in (served_of (kernel_with four []) call)) (mmap 1 3 0x21 ∷ mmap 1 3 0x02 ∷ mmap 1 3 0x32 ∷ mmap 1 0 0x22 ∷ mmap 1 2 0x22 ∷ mmap 1 7 0x22 ∷ mmap 0 3 0x22 ∷ mmap 0x1000001 3 0x22 ∷ mmap 0xFFFFFFFF 3 0x22 ∷ []) ≡ replicate 7 (Some (2 ^ 32 - 22)) ++ replicate 2 (Some (2 ^ 32 - 12))
+unfolding serve permits_of payload_of
+mmap-errors = refl
+
+pub mmap-given : answers_of (kernel_with four []) (mmap 1 3 0x22 ∷ mmap 0x1001 1 0x22 ∷ mmap 0x1000 3 0x22 ∷ mmap 0xFFC001 3 0x22 ∷ mmap 0xFFC000 3 0x22 ∷ mmap 1 3 0x22 ∷ []) ≡ Some 0x50000000 ∷ Some 0x50001000 ∷ Some 0x50003000 ∷ Some (2 ^ 32 - 12) ∷ Some 0x50004000 ∷ Some (2 ^ 32 - 12) ∷ []
+unfolding serve permits_of payload_of
+mmap-given = refl
+
+pub mmap-all : answers_of (kernel_with four []) (mmap 0x1000000 3 0x22 ∷ mmap 1 3 0x22 ∷ []) ≡ Some 0x50000000 ∷ Some (2 ^ 32 - 12) ∷ []
+unfolding serve permits_of payload_of
+mmap-all = refl
+
+pub mmap-before : map (λ a. permits_of (ranges_behind []) Read a 1) (0x50000000 ∷ 0x50001000 ∷ []) ≡ false ∷ false ∷ []
+unfolding serve permits_of payload_of
+mmap-before = refl
+
+pub mmap-reads : map (λ a. permits_of (ranges_behind two_mapped) Read a 1) (0x4FFFFFFF ∷ 0x50000000 ∷ 0x50000FFF ∷ 0x50001000 ∷ 0x50001FFF ∷ 0x50002000 ∷ []) ≡ false ∷ true ∷ true ∷ true ∷ true ∷ false ∷ []
+unfolding serve permits_of payload_of
+mmap-reads = refl
+
+pub mmap-writes : map (λ a. permits_of (ranges_behind two_mapped) Write a 1) (0x4FFFFFFF ∷ 0x50000000 ∷ 0x50000FFF ∷ 0x50001000 ∷ 0x50001FFF ∷ 0x50002000 ∷ []) ≡ false ∷ true ∷ true ∷ false ∷ false ∷ false ∷ []
+unfolding serve permits_of payload_of
+mmap-writes = refl
+
+pub mmap-none-executes : map (λ a. permits_of (ranges_behind two_mapped) Execute a 4) (0x50000000 ∷ 0x50001000 ∷ []) ≡ false ∷ false ∷ []
+unfolding serve permits_of payload_of
+mmap-none-executes = refl
+
+pub mmap-still : permits_of (ranges_behind two_mapped) Write 0x11000 4 ≡ true
+unfolding serve permits_of payload_of
+mmap-still = refl
+
+-- ---- brk_row
+
+pub brk-low : answers_of (kernel_with four []) (brk 0 ∷ brk 0x12000 ∷ brk 0x10FFF ∷ brk 0x11000 ∷ brk 0 ∷ []) ≡ Some 0x11000 ∷ Some 0x12000 ∷ Some 0x12000 ∷ Some 0x11000 ∷ Some 0x11000 ∷ []
+unfolding serve permits_of payload_of
+brk-low = refl
+
+pub brk-high : answers_of (kernel_with four []) (brk 0x12001 ∷ brk 0x111001 ∷ brk 0x111000 ∷ brk 0xFFFFFFFF ∷ brk 0 ∷ []) ≡ Some 0x12001 ∷ Some 0x12001 ∷ Some 0x111000 ∷ Some 0x111000 ∷ Some 0x111000 ∷ []
+unfolding serve permits_of payload_of
+brk-high = refl
+
+-- ---- ends_row
+
+pub ends-exit : map (λ a0. end_of (served_of (kernel_with four []) (system 93 a0 1 2 3))) (0 ∷ 255 ∷ 256 ∷ 0x1FF ∷ 0x12345 ∷ 0xFFFFFFFF ∷ []) ≡ Some (ExitHow 0) ∷ Some (ExitHow 255) ∷ Some (ExitHow 0) ∷ Some (ExitHow 255) ∷ Some (ExitHow 69) ∷ Some (ExitHow 255) ∷ []
+unfolding serve permits_of payload_of
+ends-exit = refl
+
+pub ends-exit-group : map (λ a0. end_of (served_of (kernel_with four []) (system 94 a0 1 2 3))) (0 ∷ 255 ∷ 256 ∷ 0x1FF ∷ 0x12345 ∷ 0xFFFFFFFF ∷ []) ≡ Some (ExitHow 0) ∷ Some (ExitHow 255) ∷ Some (ExitHow 0) ∷ Some (ExitHow 255) ∷ Some (ExitHow 69) ∷ Some (ExitHow 255) ∷ []
+unfolding serve permits_of payload_of
+ends-exit-group = refl
+
+pub ends-others : map (λ number. end_of (served_of (kernel_with four []) (system number 0 0 0 0))) (57 ∷ 63 ∷ 64 ∷ 92 ∷ 95 ∷ 214 ∷ 222 ∷ []) ≡ replicate 7 None
+unfolding serve permits_of payload_of
+ends-others = refl
+
+-- ---- words_of_calls_row
+
+pub words-of-calls-number : map number_of_thread (0 ∷ 1 ∷ 15 ∷ []) ≡ Some 0 ∷ Some 1 ∷ Some 15 ∷ []
+unfolding serve permits_of payload_of
+words-of-calls-number = refl
+
+pub words-of-calls-destroy : map (λ a0. answer (kernel_with four two_held) (Function MutexDestroy) a0 0 0) (0x100E0 ∷ 0x100E4 ∷ 0x100E8 ∷ 0 ∷ []) ≡ Some 0 ∷ Some 0 ∷ Some 0 ∷ Some 14 ∷ []
+unfolding serve permits_of payload_of
+words-of-calls-destroy = refl
+
+pub words-of-calls-keeps : map (λ a0. (kernel_behind (kernel_with four []) (served_of (kernel_with four two_held) (function_call MutexDestroy a0))).owners) (0x100E0 ∷ 0x100E4 ∷ 0x100E8 ∷ 0 ∷ []) ≡ replicate 4 two_held
+unfolding serve permits_of payload_of
+words-of-calls-keeps = refl
+
+pub words-of-calls-misaligned : map (λ function. answer (kernel_with four two_held) (Function function) 0x100E5 0x100E4 0) on_words ≡ replicate 10 (Some 14)
+unfolding serve permits_of payload_of
+words-of-calls-misaligned = refl
+
+pub words-of-calls-unwritable : map (λ function. answer (kernel_with four two_held) (Function function) 0x20000000 0x100E4 0) on_words ≡ replicate 10 (Some 14)
+unfolding serve permits_of payload_of
+words-of-calls-unwritable = refl

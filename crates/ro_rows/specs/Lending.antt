@@ -1,10 +1,11 @@
 -- Cores of a run that lends pages.
 use Rattle.std.specs.Prelude.{ℕ, ◌*◌, Bool, true, false, List, [], ◌∷◌, ◌++◌, map, Some, None}
-use Rattle.std.specs.List.{range_with_len}
+use Rattle.std.specs.List.{range_with_len, flat_map}
 use Rattle.ro_journal.specs.Leases.{lease_to}
 use Rattle.ro_journal.specs.declared.Did.TheVariants.{Served}
 use Rattle.ro_journal.specs.declared.Entry.{Entry}
-use Rattle.ro_journal.specs.declared.Entry.TheVariants.{Take, Put, Part}
+use Rattle.ro_journal.specs.declared.Entry.TheVariants.{Take, Put, Part, Vote}
+use Rattle.ro_journal.specs.declared.losers.Lost.TheVariants.{Nobody}
 use Rattle.ro_faults.specs.declared.Target.TheVariants.{Register}
 use Rattle.ro_image.specs.Image.{ranges_with}
 use Rattle.ro_plain.specs.Machine.{Program}
@@ -58,6 +59,16 @@ second_parted = first_out ++ parts 1 1
 -- thread 1 came back for the want of its code
 abbrev pub second_waits : List Entry
 second_waits = first_out ++ Take (lease_to 1 0 1) ∷ Part (lease_to 1 0 1) 0 0 ∷ []
+
+-- thread 1 comes to its exit in every replica, while thread 0 can go on
+abbrev pub exits_beside : List Entry
+exits_beside = flat_map (λ replica.
+    Take (lease_to 1 replica 1) ∷ Part (lease_to 1 replica 1) 0 0 ∷ Take (lease_to 1 replica 1) ∷ Part (lease_to 1 replica 1) 1 0 ∷ Take (lease_to 1 replica 1)
+    ∷ Put (lease_to 1 replica 1) 3 0 ∷ []) (0 ∷ 1 ∷ 2 ∷ [])
+
+-- and exits
+abbrev pub one_exited : List Entry
+one_exited = exits_beside ++ Vote 1 4 0 Nobody Served ∷ []
 
 -- each thread of the core missed pages so often
 abbrev pub missed_by : ℕ → Core → Core

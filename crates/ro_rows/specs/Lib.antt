@@ -1,3 +1,4 @@
+pub mod Cooperative
 pub mod Exit
 pub mod Guests
 pub mod Edges

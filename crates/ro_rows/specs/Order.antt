@@ -1,10 +1,10 @@
 -- What the order of steps, and the bytes that they access, are asked of.
-use Rattle.std.specs.Prelude.{ℕ, ◌+◌, List, [], ◌∷◌, ◌++◌, replicate, zero, suc, true, Option, Some, None}
+use Rattle.std.specs.Prelude.{ℕ, ◌+◌, List, [], ◌∷◌, ◌++◌, replicate, zero, suc, true, false, Option, Some, None}
 use Rattle.ro_event.specs.declared.table.CallTable.{CallTable}
 use Rattle.ro_pages.specs.Bytes.{Span}
 use Rattle.ro_plain.specs.Machine.{Program}
 use Rattle.ro_plain.specs.Order.{Sync, sync_at}
-use Rattle.ro_simulation.specs.Guests.{guest}
+use Rattle.ro_simulation.specs.Guests.{no_calls, guest}
 
 -- the execution of the locking guest that the votes of one driver name: thread 0 makes both threads and asks to join the
 -- first; that one locks, writes, unlocks and exits and is joined; then the second one likewise; thread 0 exits
@@ -84,9 +84,30 @@ beside_guest = adding_guest 0x08418313 0x08418313 0x00032023
 abbrev pub own_word_guest : Program
 own_word_guest = adding_guest 0x06818313 0x06818313 0x0053202F
 
+-- thread 1 looks at the word by LR
+abbrev pub looking_guest : Program
+looking_guest = adding_guest 0x08418313 0x08418313 0x100322AF
+
 -- thread 0 adds, and then thread 1 comes to its own access
 abbrev pub adding_plan : List ℕ
 adding_plan = replicate 7 0 ++ 1 ∷ 1 ∷ []
+
+-- thread 1 comes to its access before thread 0 adds
+abbrev pub looking_plan : List ℕ
+looking_plan = replicate 6 0 ++ 1 ∷ 1 ∷ 0 ∷ []
+
+-- ---- a wait, and memory on demand
+
+-- the execution of the guest that waits on a condition variable, as the votes of one driver name it: thread 0 locks the mutex, makes
+-- thread 1, and begins to wait; that one locks, signals and unlocks; thread 0 waits no longer, unlocks, and asks to join; thread 1
+-- exits; thread 0 joins it and exits
+abbrev pub waiting_plan : List ℕ
+waiting_plan = replicate 15 0 ++ replicate 10 1 ++ replicate 7 0 ++ replicate 3 1 ++ replicate 4 0
+
+-- it asks for a page and a byte of private memory, then for shared memory, and stores to the last byte of what it was given
+abbrev pub mapping_guest : Program
+mapping_guest = guest no_calls false 124
+    (0x000015B7 ∷ 0x00158593 ∷ 0x00300613 ∷ 0x02200693 ∷ 0x0DE00893 ∷ 0x00000073 ∷ 0x02100693 ∷ 0x00000073 ∷ 0x50002437 ∷ 0xFE040FA3 ∷ [])
 
 -- ---- what orders nothing
 

@@ -12,13 +12,19 @@ use Rattle.ro_decode.specs.declared.BranchOp.TheVariants.{Beq, Bne, Blt, Bge, Bl
 use Rattle.ro_decode.specs.declared.AtomicOp.TheVariants.{LoadReserved, StoreConditional, AmoSwap, AmoAdd, AmoXor, AmoAnd, AmoOr, AmoMin, AmoMax, AmoMinu, AmoMaxu}
 use Rattle.ro_alu.specs.Results.{muldiv_of, amo_of}
 use Rattle.ro_event.specs.declared.calls.Which.{Which}
+use Rattle.ro_event.specs.declared.calls.Which.TheVariants.{System, Function}
+use Rattle.ro_event.specs.declared.functions.Function.TheVariants.{ThreadSelf, MutexInit, MutexDestroy, Lock, TryLock, Unlock, ConditionInit, ConditionDestroy, Wait, Signal, Broadcast}
+use Rattle.ro_event.specs.declared.functions.Function.{Function as Posix}
+use Rattle.ro_region.specs.declared.Range.{Range}
+use Rattle.ro_event.specs.declared.calls.Call.{Call}
 use Rattle.ro_event.specs.Views.{same_numbers}
 use Rattle.ro_pages.specs.Bytes.{bytes_of, stored}
 use Rattle.ro_mutex.specs.Owners.{Owners}
 use Rattle.ro_kernel.specs.declared.Life.{Life}
 use Rattle.ro_kernel.specs.declared.Life.TheVariants.{Live, Exited, Joined}
-use Rattle.ro_kernel.specs.Kernel.{Kernel}
-use Rattle.ro_kernel.specs.Serve.{Served, Done, serve}
+use Rattle.ro_kernel.specs.Kernel.{Kernel, ranges_in}
+use Rattle.ro_kernel.specs.Serve.{Served, Done, Ends, serve}
+use Rattle.ro_journal.specs.declared.How.{How}
 use Rattle.ro_exec.specs.declared.Cpu.{Cpu}
 use Rattle.ro_exec.specs.Next.{Next, all_backed, next}
 use Rattle.ro_plain.specs.Machine.{setup_of}
@@ -215,6 +221,61 @@ answer_in served = None
 abbrev pub answer : Kernel → Which → (a0 a1 a2 : ℕ) → Option ℕ
 answer kernel which a0 a1 a2 =
     answer_in (serve (setup_of locking_guest) kernel 0 (record { which = which; a0 = a0; a1 = a1; a2 = a2; a3 = 0 }))
+
+-- a system call
+abbrev pub system : (number a0 a1 a2 a3 : ℕ) → Call
+system number a0 a1 a2 a3 = record { which = System number; a0 = a0; a1 = a1; a2 = a2; a3 = a3 }
+
+-- a mmap of so many bytes, which may be read (1) or read and written (3); private and anonymous is 0x22
+abbrev pub mmap : (count protection flags : ℕ) → Call
+mmap count protection flags = system 222 0 count protection flags
+
+abbrev pub brk : (address : ℕ) → Call
+brk address = system 214 address 0 0 0
+
+-- the kernel behind a call
+abbrev pub kernel_behind : Kernel → Served → Kernel
+kernel_behind kernel (Done after effect) = after
+kernel_behind kernel served = kernel
+
+-- what comes of a call of thread 0
+abbrev pub served_of : Kernel → Call → Served
+served_of kernel call = serve (setup_of locking_guest) kernel 0 call
+
+-- what thread 0 is answered to one call after another
+abbrev pub answers_of : Kernel → List Call → List (Option ℕ)
+answers_of kernel [] = []
+answers_of kernel (call ∷ calls) = answer_in (served_of kernel call) ∷ answers_of (kernel_behind kernel (served_of kernel call)) calls
+
+-- the kernel behind them
+abbrev pub behind_calls : Kernel → List Call → Kernel
+behind_calls kernel [] = kernel
+behind_calls kernel (call ∷ calls) = behind_calls (kernel_behind kernel (served_of kernel call)) calls
+
+-- the ranges that are permitted behind them
+abbrev pub ranges_behind : List Call → List Range
+ranges_behind calls = ranges_in (setup_of locking_guest) (behind_calls (kernel_with four []) calls)
+
+-- one page that may be read and written, and one that may be read
+abbrev pub two_mapped : List Call
+two_mapped = mmap 1 3 0x22 ∷ mmap 1 1 0x22 ∷ []
+
+-- how the program ends by a call, if it does
+abbrev pub end_of : Served → Option How
+end_of (Ends kernel how) = Some how
+end_of served = None
+
+abbrev pub function_call : Posix → (a0 : ℕ) → Call
+function_call function a0 = record { which = Function function; a0 = a0; a1 = 7; a2 = 7; a3 = 7 }
+
+-- the functions whose first argument is the word of a mutex or of a condition variable
+abbrev pub on_words : List Posix
+on_words = MutexInit ∷ MutexDestroy ∷ Lock ∷ TryLock ∷ Unlock ∷ ConditionInit ∷ ConditionDestroy ∷ Wait ∷ Signal ∷ Broadcast ∷ []
+
+-- what a thread is answered that asks for its number
+abbrev pub number_of_thread : (thread : ℕ) → Option ℕ
+number_of_thread thread =
+    answer_in (serve (setup_of locking_guest) (kernel_with (replicate 16 Live) []) thread (function_call ThreadSelf 7))
 
 -- ---- threads
 

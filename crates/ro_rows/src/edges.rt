@@ -21,7 +21,7 @@ ghost use Rattle.ro_simulation.specs.Rows.{flip_a0};
 ghost use Rattle.ro_simulation.specs.Drives.{driven};
 ghost use Rattle.ro_rows.specs.Exit.{exit_job};
 ghost use Rattle.ro_rows.specs.Rows.{decisions, deadlock_job, deadlock_before, hello_job};
-ghost use Rattle.ro_rows.specs.Edges.{small_job, waiters_job, two_wait, unlocked, letter_job, all_hits, is_vote, page_limit_job, before_free, exit_runs, until_free, scrubbing, one_runs, one_lent, both_stand, last_lent, parted_job, parted_runs, parted_pair, hello_written, watch_job, watch_journal, with_waits, votes_of};
+ghost use Rattle.ro_rows.specs.Edges.{small_job, waiters_job, two_wait, unlocked, letter_job, all_hits, is_vote, page_limit_job, before_free, exit_runs, until_free, scrubbing, one_runs, one_lent, both_stand, last_lent, parted_job, parted_runs, parted_pair, hello_written, watch_job, watch_journal, with_waits, with_three_waits, votes_of, hidden_pair_job, hidden_pair, hidden_three_job, hidden_three, shown_pair_job, shown_pair};
 
 /// A row: no execution of the guest that exits with 7 has more than three steps, and one has more than two.
 pub fn length_row()
@@ -92,7 +92,7 @@ pub fn free_first_row()
 {}
 
 /// A row: two threads wait for a mutex, the higher one for longer. Neither may be freed before the unlock and both may be
-/// behind it, and the lower one is; but not while a lease is out.
+/// behind it, and the lower one is, unless the other has waited for 64 votes, and longer than it; but none while a lease is out.
 pub fn waiters_row()
     ensures legal { Legal waiters_job unlocked }
     ensures wait { may_free waiters_job (replay waiters_job two_wait) 1 ≡ false }
@@ -100,6 +100,11 @@ pub fn waiters_row()
     ensures may { may_free waiters_job (replay waiters_job unlocked) 1 ≡ true }
     ensures may_too { may_free waiters_job (replay waiters_job unlocked) 2 ≡ true }
     ensures lowest { next_action waiters_job (replay waiters_job unlocked) ≡ act.Free 1 }
+    ensures early { next_action waiters_job (with_three_waits 0 0 63 (replay waiters_job unlocked)) ≡ act.Free 1 }
+    ensures overdue { next_action waiters_job (with_three_waits 0 63 64 (replay waiters_job unlocked)) ≡ act.Free 2 }
+    ensures longer { next_action waiters_job (with_three_waits 0 64 65 (replay waiters_job unlocked)) ≡ act.Free 2 }
+    ensures shorter { next_action waiters_job (with_three_waits 0 65 64 (replay waiters_job unlocked)) ≡ act.Free 1 }
+    ensures alike { next_action waiters_job (with_three_waits 0 64 64 (replay waiters_job unlocked)) ≡ act.Free 1 }
     ensures then_waits { may_free waiters_job (replay waiters_job (unlocked ++ Free 1 ∷ [])) 2 ≡ false }
     ensures lent { may_free waiters_job (replay waiters_job (unlocked ++ Take (lease_to 0 0 0) ∷ [])) 1 ≡ false }
 {}
@@ -194,4 +199,26 @@ pub fn snapshot_row()
     ensures counts { (lives : Bool) (one other : Thread) → thread_snapshot lives one ≡ thread_snapshot lives other → one.since ≡ other.since }
     ensures registers { (one other : Thread) → thread_snapshot true one ≡ thread_snapshot true other → one.cpu ≡ other.cpu }
     ensures stops { (one other : Thread) → thread_snapshot true one ≡ thread_snapshot true other → one.stop ≡ other.stop }
+{}
+
+/// A row: a scrub notes the length of the plan, and a sink doesn't fail behind it. Where the replicas that it compares are one, neither a
+/// difference nor no majority may end the journal in its place. Where they are not, two of them end by a difference and three by no
+/// majority, and not the other way round; that comes next where a scrub is due, and else the vote does, as their views are one.
+pub fn scrub_row()
+    ensures steps { (replay deadlock_job deadlock_before).steps ≡ 16 }
+    ensures none_yet { (replay deadlock_job deadlock_before).scrubbed ≡ 0 }
+    ensures noted { (after deadlock_job (replay deadlock_job deadlock_before) (Scrub 0 Nobody)).scrubbed ≡ 16 }
+    ensures may { IsAllowed deadlock_job (replay deadlock_job deadlock_before) (Scrub 0 Nobody) }
+    ensures no_sink { IsAllowed deadlock_job (after deadlock_job (replay deadlock_job deadlock_before) (Scrub 0 Nobody)) (End (Sink 0)) → ⊥ }
+    ensures no_sink_behind { IsAllowed hello_job (after hello_job (replay hello_job hello_written) (Scrub 0 Nobody)) (End (Sink 0)) → ⊥ }
+    ensures alike { IsAllowed deadlock_job (replay deadlock_job deadlock_before) (End NoMajority) → ⊥ }
+    ensures alike_two { IsAllowed shown_pair_job (replay shown_pair_job shown_pair) (End Differ) → ⊥ }
+    ensures two { IsAllowed hidden_pair_job (replay hidden_pair_job hidden_pair) (End Differ) }
+    ensures two_majority { IsAllowed hidden_pair_job (replay hidden_pair_job hidden_pair) (End NoMajority) → ⊥ }
+    ensures three { IsAllowed hidden_three_job (replay hidden_three_job hidden_three) (End NoMajority) }
+    ensures three_differ { IsAllowed hidden_three_job (replay hidden_three_job hidden_three) (End Differ) → ⊥ }
+    ensures next { IsNext (scrubbing 1 hidden_pair_job) (replay hidden_pair_job hidden_pair) (End Differ) }
+    ensures next_three { IsNext (scrubbing 1 hidden_three_job) (replay hidden_three_job hidden_three) (End NoMajority) }
+    ensures vote { next_action hidden_pair_job (replay hidden_pair_job hidden_pair) ≡ act.Vote 0 }
+    ensures not_next { IsNext hidden_pair_job (replay hidden_pair_job hidden_pair) (End Differ) → ⊥ }
 {}

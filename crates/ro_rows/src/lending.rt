@@ -1,11 +1,13 @@
 //! Rows of leases that have a few pages of their replica.
-ghost use Rattle.std.specs.Prelude.{◌≡◌, true, false, [], ◌∷◌, ◌++◌, length};
+ghost use Rattle.std.specs.Prelude.{◌≡◌, true, false, [], ◌∷◌, ◌++◌, length, map};
 ghost use Rattle.ro_journal.specs.Leases.{lease_to};
 ghost use Rattle.std.specs.List.{filter};
 ghost use Rattle.ro_journal.specs.declared.losers.Lost.TheVariants.{Nobody};
 ghost use Rattle.ro_journal.specs.declared.Did.TheVariants.{Served, Blocked};
 ghost use Rattle.ro_journal.specs.declared.How.TheVariants.{Exit};
 ghost use Rattle.ro_journal.specs.declared.Entry.TheVariants.{Take, Put, Part, Vote, Free, End};
+ghost use Rattle.ro_kernel.specs.Kernel.{lives_on};
+ghost use Rattle.ro_replica.specs.Views.{is_unstopped};
 ghost use Rattle.ro_plain.specs.Order.{RaceFree};
 ghost use Rattle.ro_legal.specs.Parts.{Whole, Pages, wish_with};
 ghost use Rattle.ro_legal.specs.Core.{opening_core, lent_to, is_lendable};
@@ -15,7 +17,7 @@ ghost use Rattle.ro_simulation.specs.Rows.{IsCovered};
 ghost use Rattle.ro_simulation.specs.Drives.{driven};
 ghost use Rattle.ro_rows.specs.Rows.{decisions};
 ghost use Rattle.ro_rows.specs.Edges.{round};
-ghost use Rattle.ro_rows.specs.Lending.{storing_job, struck_job, lending_job, one_driver_job, behind_in, behind, parts, first_out, second_parted, second_waits, missed_by, shared_journal, is_part, wide_job, part, nine_parts, behind_nine};
+ghost use Rattle.ro_rows.specs.Lending.{storing_job, struck_job, lending_job, one_driver_job, behind_in, behind, parts, first_out, exits_beside, one_exited, second_parted, second_waits, missed_by, shared_journal, is_part, wide_job, part, nine_parts, behind_nine};
 
 /// A row: a thread is lent with the pages that it wishes, the last one missed first, and with its whole replica where one
 /// driver runs, where the thread is alone, where a fault of it may be struck within a quantum, and where it missed pages more than
@@ -83,4 +85,14 @@ pub fn shared_row()
     ensures the_same { decisions (driven 100 lending_job) ≡ decisions shared_journal }
     ensures parts { length (filter is_part (driven 100 lending_job)) ≡ 6 }
     ensures more_parts { length (filter is_part shared_journal) ≡ 8 }
+{}
+
+/// A row: thread 1 exits while thread 0 goes on. It stands at no stop any more, but it does not go on: thread 0 is lent with its whole
+/// replica, and so it is lent with no page beside a thread that lives.
+pub fn exited_row()
+    ensures beside { lent_to (behind []) 0 0 ≡ Pages [] }
+    ensures allowed { IsAllowed lending_job (behind exits_beside) (Vote 1 4 0 Nobody Served) }
+    ensures exited { lives_on (behind one_exited).kernel 1 ≡ false }
+    ensures no_stop { map (is_unstopped 1) (behind one_exited).replicas ≡ true ∷ true ∷ true ∷ [] }
+    ensures whole { map (λ replica. lent_to (behind one_exited) replica 0) (0 ∷ 1 ∷ 2 ∷ []) ≡ Whole ∷ Whole ∷ Whole ∷ [] }
 {}

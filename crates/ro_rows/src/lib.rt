@@ -2,6 +2,7 @@
 //! and tables. What a row says comes from outside, by hand, by a standard or by an assembler: it pins the definitions.
 #![tactic(auto)]
 
+mod cooperative;
 mod edges;
 mod lending;
 mod order;
@@ -29,18 +30,20 @@ ghost use Rattle.ro_rows.specs.Exit.{exit_file, exit_image, exit_job, exit_journ
 ghost use Rattle.ro_rows.specs.Guests.{loop_guest};
 ghost use Rattle.ro_rows.specs.Rows.{five_job, IdealEnds, decisions, page_job, atomic_job, waiting_job, lost_job, lost_journal, deadlock_job, deadlock_journal, pair_job, pair_journal, single_job, watched_job, hello_job, failing_journal, healed_job, hidden_job, before_vote};
 
+pub use cooperative::refused_row;
 pub use edges::{
     differ_row, due_deadlock_row, due_row, free_first_row, length_row, limit_row, parted_row,
-    put_row, sink_row, snapshot_row, stuck_row, take_row, vote_row, waiters_row, waits_row,
-    watch_row,
+    put_row, scrub_row, sink_row, snapshot_row, stuck_row, take_row, vote_row, waiters_row,
+    waits_row, watch_row,
 };
-pub use lending::{lend_row, nine_row, part_row, shared_row};
+pub use lending::{exited_row, lend_row, nine_row, part_row, shared_row};
 pub use order::{
-    accesses_row, atomics_row, before_row, calls_row, races_row, sync_row, unordered_row, words_row,
+    accesses_row, atomics_row, before_row, calls_row, looks_row, mapping_row, races_row, sync_row,
+    unordered_row, wait_row, words_row,
 };
 pub use tables::{
-    checks_row, errors_row, instructions_row, names_row, results_row, settings_row, threads_row,
-    traps_row,
+    brk_row, checks_row, ends_row, errors_row, instructions_row, mmap_row, names_row, results_row,
+    settings_row, threads_row, traps_row, words_of_calls_row,
 };
 
 /// A row: the program of a file of 96 bytes exits with 7. Its journal of eight entries is legal and the one that one

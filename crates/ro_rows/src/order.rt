@@ -4,8 +4,9 @@ ghost use Rattle.ro_journal.specs.Plan.{plan_of};
 ghost use Rattle.ro_plain.specs.Order.{Sync, Unlocks, Locks, Makes, Joins, Exits, Updates, Observes, Nothing, HappensBefore, RaceFree, accesses_at};
 ghost use Rattle.ro_simulation.specs.Drives.{driven};
 ghost use Rattle.ro_simulation.specs.Guests.{locking_guest, usual_job};
-ghost use Rattle.ro_rows.specs.Guests.{atomic_guest};
-ghost use Rattle.ro_rows.specs.Order.{locking_plan, syncs_from, bytes, none, calls_guest, calls_plan, atomics_guest, beside_guest, own_word_guest, adding_plan, racing_guest, created_guest, joined_guest, locked_guest, two_mutexes_guest, two_mutexes_plan, creations_plan, exits_plan};
+ghost use Rattle.ro_rows.specs.Guests.{atomic_guest, waiting_guest};
+ghost use Rattle.ro_rows.specs.Rows.{waiting_job};
+ghost use Rattle.ro_rows.specs.Order.{locking_plan, syncs_from, bytes, none, calls_guest, calls_plan, atomics_guest, beside_guest, own_word_guest, looking_guest, adding_plan, looking_plan, waiting_plan, mapping_guest, racing_guest, created_guest, joined_guest, locked_guest, two_mutexes_guest, two_mutexes_plan, creations_plan, exits_plan};
 
 /// A row: the plan of the locking guest has 53 steps, and of them two create, two lock and unlock the mutex at 100E8,
 /// two exit, two join, and no other means anything for the order.
@@ -87,4 +88,35 @@ pub fn unordered_row()
     ensures mutexes { syncs_from two_mutexes_guest two_mutexes_plan 8 7 ≡ Locks 0x100A4 ∷ replicate 3 Nothing ++ Unlocks 0x100A4 ∷ Nothing ∷ Locks 0x100AC ∷ [] }
     ensures other_mutex { HappensBefore two_mutexes_guest two_mutexes_plan 9 15 → ⊥ }
     ensures races { RaceFree two_mutexes_guest → ⊥ }
+{}
+
+/// A row: the first step of a wait unlocks its mutex, and its second one locks it; a signal means nothing, and neither step accesses a
+/// byte. So what thread 0 did before its wait comes before thread 1's lock, and thread 1's unlock before what thread 0 does behind the wait.
+pub fn wait_row()
+    ensures plan { plan_of (driven 200 waiting_job) ≡ waiting_plan }
+    ensures syncs { syncs_from waiting_guest waiting_plan 0 39 ≡ replicate 3 Nothing ++ Locks 0x11000 ∷ replicate 6 Nothing ++ Makes 1 ∷ replicate 3 Nothing ++ Unlocks 0x11000 ∷ replicate 3 Nothing ++ Locks 0x11000 ∷ replicate 5 Nothing ++ Unlocks 0x11000 ∷ Locks 0x11000 ∷ replicate 2 Nothing ++ Unlocks 0x11000 ∷ replicate 5 Nothing ++ Exits ∷ Joins 1 ∷ replicate 3 Nothing }
+    ensures first { accesses_at waiting_guest waiting_plan 14 ≡ record { reads = none ∷ []; writes = []; atomic = [] } }
+    ensures second { accesses_at waiting_guest waiting_plan 25 ≡ record { reads = none ∷ []; writes = none ∷ []; atomic = [] } }
+    ensures signal { accesses_at waiting_guest waiting_plan 21 ≡ record { reads = none ∷ []; writes = none ∷ []; atomic = [] } }
+    ensures before_wait { HappensBefore waiting_guest waiting_plan 13 18 }
+    ensures behind_wait { HappensBefore waiting_guest waiting_plan 20 26 }
+{}
+
+/// A row: a mmap writes the whole range that it gives, in whole pages, and means nothing for the order; one that is answered an error
+/// writes nothing.
+pub fn mapping_row()
+    ensures syncs { syncs_from mapping_guest (replicate 10 0) 0 10 ≡ replicate 10 Nothing }
+    ensures given { accesses_at mapping_guest (replicate 10 0) 5 ≡ record { reads = none ∷ bytes 0x10068 4 ∷ []; writes = none ∷ bytes 0x50000000 0x2000 ∷ []; atomic = [] } }
+    ensures refused { accesses_at mapping_guest (replicate 10 0) 7 ≡ record { reads = none ∷ bytes 0x10070 4 ∷ []; writes = none ∷ []; atomic = [] } }
+    ensures store { accesses_at mapping_guest (replicate 10 0) 9 ≡ record { reads = none ∷ bytes 0x10078 4 ∷ []; writes = bytes 0x50001FFF 1 ∷ []; atomic = [] } }
+{}
+
+/// A row: an AMOADD comes before a later LR of its word, and what its thread did before it comes before that too. An LR comes before no AMOADD
+/// of another thread.
+pub fn looks_row()
+    ensures syncs { syncs_from looking_guest adding_plan 6 3 ≡ Updates 0x10084 ∷ Nothing ∷ Observes 0x10084 ∷ [] }
+    ensures update { HappensBefore looking_guest adding_plan 6 8 }
+    ensures before_it { HappensBefore looking_guest adding_plan 0 8 }
+    ensures looks_first { syncs_from looking_guest looking_plan 7 2 ≡ Observes 0x10084 ∷ Updates 0x10084 ∷ [] }
+    ensures look { HappensBefore looking_guest looking_plan 7 8 → ⊥ }
 {}

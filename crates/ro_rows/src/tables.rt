@@ -7,10 +7,11 @@ ghost use Rattle.ro_event.specs.declared.stops.Stop.TheVariants.{Trap};
 ghost use Rattle.ro_event.specs.Traps.{number_of, causes};
 ghost use Rattle.ro_event.specs.Functions.{names};
 ghost use Rattle.ro_event.specs.Table.{call_at};
-ghost use Rattle.ro_region.specs.declared.Kind.TheVariants.{Write, Execute};
+ghost use Rattle.ro_region.specs.declared.Kind.TheVariants.{Read, Write, Execute};
 ghost use Rattle.ro_region.specs.Permission.{permits_of};
 ghost use Rattle.ro_exec.specs.Next.{Stands};
 ghost use Rattle.ro_exec.specs.Threads.{first_cpu, made_cpu};
+ghost use Rattle.ro_journal.specs.declared.How.TheVariants.{Exit as ExitHow};
 ghost use Rattle.ro_kernel.specs.declared.Life.TheVariants.{Live};
 ghost use Rattle.ro_sym.specs.Calls.{table_with};
 ghost use Rattle.ro_sym.specs.Symbols.{symbol_in};
@@ -18,7 +19,7 @@ ghost use Rattle.ro_image.specs.Executable.{bad_code};
 ghost use Rattle.ro_settings.specs.Ranges.{default_settings};
 ghost use Rattle.ro_simulation.specs.Guests.{exit_guest};
 ghost use Rattle.ro_rows.specs.Exit.{exit_file};
-ghost use Rattle.ro_rows.specs.Tables.{instructions, assembled, results, updates, changed, header, two_headers, strings, function, standing_symbols, address_named, four, kernel_with, two_held, unheld, answer, next_of};
+ghost use Rattle.ro_rows.specs.Tables.{instructions, assembled, results, updates, changed, header, two_headers, strings, function, standing_symbols, address_named, four, kernel_with, two_held, unheld, answer, answer_in, mmap, brk, system, kernel_behind, served_of, answers_of, ranges_behind, two_mapped, end_of, function_call, on_words, number_of_thread, next_of};
 
 /// A row: the words of the 59 instructions are those of an assembler, and give the instructions back.
 pub fn instructions_row()
@@ -86,4 +87,41 @@ pub fn threads_row()
     ensures stacks { map (λ a. permits_of exit_guest.image.ranges Write a 1) (0x6FFFFFFF ∷ 0x70000000 ∷ 0x7000FFFF ∷ 0x70010000 ∷ 0x701E0000 ∷ 0x701EFFFF ∷ 0x701F0000 ∷ 0x70200000 ∷ []) ≡ false ∷ true ∷ true ∷ false ∷ true ∷ true ∷ false ∷ false ∷ [] }
     ensures heap { map (λ a. permits_of exit_guest.image.ranges Write a 1) (0x10FFF ∷ 0x11000 ∷ 0x110FFF ∷ 0x111000 ∷ []) ≡ false ∷ true ∷ true ∷ false ∷ [] }
     ensures none_executes { permits_of exit_guest.image.ranges Execute 0x11000 4 ∷ permits_of exit_guest.image.ranges Execute 0x70000000 4 ∷ permits_of exit_guest.image.ranges Write 0x10000 4 ∷ [] ≡ false ∷ false ∷ false ∷ [] }
+{}
+
+/// A row: memory on demand. Memory that is not private and anonymous, another protection than reading, or reading and writing, and no
+/// bytes are EINVAL 22; more than 16 MiB in all are ENOMEM 12. Ranges are given in whole pages, one behind the other from 50000000 on, up to
+/// 51000000 and not a byte further. Behind the call its range may be read, and written where that was asked for, but not executed.
+pub fn mmap_row()
+    ensures errors { map (λ call. answer_in (served_of (kernel_with four []) call)) (mmap 1 3 0x21 ∷ mmap 1 3 0x02 ∷ mmap 1 3 0x32 ∷ mmap 1 0 0x22 ∷ mmap 1 2 0x22 ∷ mmap 1 7 0x22 ∷ mmap 0 3 0x22 ∷ mmap 0x1000001 3 0x22 ∷ mmap 0xFFFFFFFF 3 0x22 ∷ []) ≡ replicate 7 (Some (2 ^ 32 - 22)) ++ replicate 2 (Some (2 ^ 32 - 12)) }
+    ensures given { answers_of (kernel_with four []) (mmap 1 3 0x22 ∷ mmap 0x1001 1 0x22 ∷ mmap 0x1000 3 0x22 ∷ mmap 0xFFC001 3 0x22 ∷ mmap 0xFFC000 3 0x22 ∷ mmap 1 3 0x22 ∷ []) ≡ Some 0x50000000 ∷ Some 0x50001000 ∷ Some 0x50003000 ∷ Some (2 ^ 32 - 12) ∷ Some 0x50004000 ∷ Some (2 ^ 32 - 12) ∷ [] }
+    ensures all { answers_of (kernel_with four []) (mmap 0x1000000 3 0x22 ∷ mmap 1 3 0x22 ∷ []) ≡ Some 0x50000000 ∷ Some (2 ^ 32 - 12) ∷ [] }
+    ensures before { map (λ a. permits_of (ranges_behind []) Read a 1) (0x50000000 ∷ 0x50001000 ∷ []) ≡ false ∷ false ∷ [] }
+    ensures reads { map (λ a. permits_of (ranges_behind two_mapped) Read a 1) (0x4FFFFFFF ∷ 0x50000000 ∷ 0x50000FFF ∷ 0x50001000 ∷ 0x50001FFF ∷ 0x50002000 ∷ []) ≡ false ∷ true ∷ true ∷ true ∷ true ∷ false ∷ [] }
+    ensures writes { map (λ a. permits_of (ranges_behind two_mapped) Write a 1) (0x4FFFFFFF ∷ 0x50000000 ∷ 0x50000FFF ∷ 0x50001000 ∷ 0x50001FFF ∷ 0x50002000 ∷ []) ≡ false ∷ true ∷ true ∷ false ∷ false ∷ false ∷ [] }
+    ensures none_executes { map (λ a. permits_of (ranges_behind two_mapped) Execute a 4) (0x50000000 ∷ 0x50001000 ∷ []) ≡ false ∷ false ∷ [] }
+    ensures still { permits_of (ranges_behind two_mapped) Write 0x11000 4 ≡ true }
+{}
+
+/// A row: the break moves to any address from the heap's start to its end, both included, and stays where it was for any other.
+pub fn brk_row()
+    ensures low { answers_of (kernel_with four []) (brk 0 ∷ brk 0x12000 ∷ brk 0x10FFF ∷ brk 0x11000 ∷ brk 0 ∷ []) ≡ Some 0x11000 ∷ Some 0x12000 ∷ Some 0x12000 ∷ Some 0x11000 ∷ Some 0x11000 ∷ [] }
+    ensures high { answers_of (kernel_with four []) (brk 0x12001 ∷ brk 0x111001 ∷ brk 0x111000 ∷ brk 0xFFFFFFFF ∷ brk 0 ∷ []) ≡ Some 0x12001 ∷ Some 0x12001 ∷ Some 0x111000 ∷ Some 0x111000 ∷ Some 0x111000 ∷ [] }
+{}
+
+/// A row: of a number to exit with the lowest eight bits count, by either of the two calls; no other call of these ends the program.
+pub fn ends_row()
+    ensures exit { map (λ a0. end_of (served_of (kernel_with four []) (system 93 a0 1 2 3))) (0 ∷ 255 ∷ 256 ∷ 0x1FF ∷ 0x12345 ∷ 0xFFFFFFFF ∷ []) ≡ Some (ExitHow 0) ∷ Some (ExitHow 255) ∷ Some (ExitHow 0) ∷ Some (ExitHow 255) ∷ Some (ExitHow 69) ∷ Some (ExitHow 255) ∷ [] }
+    ensures exit_group { map (λ a0. end_of (served_of (kernel_with four []) (system 94 a0 1 2 3))) (0 ∷ 255 ∷ 256 ∷ 0x1FF ∷ 0x12345 ∷ 0xFFFFFFFF ∷ []) ≡ Some (ExitHow 0) ∷ Some (ExitHow 255) ∷ Some (ExitHow 0) ∷ Some (ExitHow 255) ∷ Some (ExitHow 69) ∷ Some (ExitHow 255) ∷ [] }
+    ensures others { map (λ number. end_of (served_of (kernel_with four []) (system number 0 0 0 0))) (57 ∷ 63 ∷ 64 ∷ 92 ∷ 95 ∷ 214 ∷ 222 ∷ []) ≡ replicate 7 None }
+{}
+
+/// A row: a thread that asks for its number is answered it. To destroy a mutex changes nothing, held or not, known or not. Each call on a mutex
+/// or a condition variable is answered EFAULT 14 where that is no aligned word, or one that may not be written.
+pub fn words_of_calls_row()
+    ensures number { map number_of_thread (0 ∷ 1 ∷ 15 ∷ []) ≡ Some 0 ∷ Some 1 ∷ Some 15 ∷ [] }
+    ensures destroy { map (λ a0. answer (kernel_with four two_held) (Function MutexDestroy) a0 0 0) (0x100E0 ∷ 0x100E4 ∷ 0x100E8 ∷ 0 ∷ []) ≡ Some 0 ∷ Some 0 ∷ Some 0 ∷ Some 14 ∷ [] }
+    ensures keeps { map (λ a0. (kernel_behind (kernel_with four []) (served_of (kernel_with four two_held) (function_call MutexDestroy a0))).owners) (0x100E0 ∷ 0x100E4 ∷ 0x100E8 ∷ 0 ∷ []) ≡ replicate 4 two_held }
+    ensures misaligned { map (λ function. answer (kernel_with four two_held) (Function function) 0x100E5 0x100E4 0) on_words ≡ replicate 10 (Some 14) }
+    ensures unwritable { map (λ function. answer (kernel_with four two_held) (Function function) 0x20000000 0x100E4 0) on_words ≡ replicate 10 (Some 14) }
 {}

@@ -96,6 +96,44 @@ fn out_sink(rt: HostRuntime) -> Result<(), Fail> {
     Ok(())
 }
 
+// A stream that takes all that it is given, and says that it failed. It counts how often it was asked.
+#[derive(Drop)]
+struct Silent<'a> {
+    calls: &'a mut u8,
+    taken: &'a mut Vec<u8>,
+}
+
+impl<'a> Write for Silent<'a> {
+    fn write(&mut self, buf: &[u8]) -> io::Result<usize> {
+        *self.calls = self.calls.saturating_add(1);
+        self.taken.extend_from_slice(buf)?;
+        match *self.calls {
+            1 => Err(io::Error::from(ErrorKind::BrokenPipe)),
+            _ => Ok(buf.len()),
+        }
+    }
+
+    fn flush(&mut self) -> io::Result<()> {
+        Ok(())
+    }
+}
+
+// What a stream failed to take isn't handed to it again.
+#[test]
+fn failed_once(rt: HostRuntime) -> Result<(), Fail> {
+    let mut calls = 0;
+    let mut taken = Vec::new(rt.alloc());
+    let mut sink = OutSink::new(Silent {
+        calls: &mut calls,
+        taken: &mut taken,
+    });
+    let answer = sink.give(b"hello");
+    assert_eq!(rt; answer, Err(Failed));
+    assert_eq!(rt; calls, 1);
+    assert_eq!(rt; taken.as_slice(), b"hello".as_slice());
+    Ok(())
+}
+
 #[test]
 fn file_store(rt: HostRuntime) -> Result<(), Fail> {
     let name = format!(in rt.alloc(); "ro_io-{}", process::id(rt.process()))?;

@@ -1,5 +1,6 @@
 -- A run that was as long as it is told: it comes back so, or stands where it is not told; and what it got is known.
-use Rattle.std.specs.Prelude.{◌≡◌, ◌≢◌, ◌⊎◌, ◌<◌, ◌≤◌, ◌+◌, ℕ, zero, suc, Bool, true, false, if◌then◌else◌, min, IsTrue, IsSome, List, [], ◌∷◌, ◌++◌, length, None, is_some, slice_get}
+use Rattle.std.specs.Prelude.{◌≡◌, ◌≢◌, ◌⊎◌, ◌<◌, ◌≤◌, ◌+◌, ℕ, zero, suc, Bool, true, false, not, if◌then◌else◌, min, IsTrue, IsSome, List, [], ◌∷◌, ◌++◌, length, Option, Some, None, is_some, slice_get}
+use Rattle.std.specs.List.{list_all}
 use Rattle.std.specs.Option.{option_and_then, option_map}
 use mathlib.Core.Logic.{inl, inr}
 use Rattle.std.proofs.Common.{refl, sym, ap, ◌∙◌, subst, arith}
@@ -17,22 +18,23 @@ use Rattle.ro_replica.specs.Views.{is_unstopped}
 use Rattle.ro_peer.specs.declared.mutexes.Mutex.{Mutex}
 use Rattle.ro_peer.specs.declared.running.Came.{Came}
 use Rattle.ro_peer.specs.declared.running.Came.TheVariants.{Quantum, Stopped, Owned, Row, Full}
-use Rattle.ro_peer.specs.Peers.{Peer, leased_run}
+use Rattle.ro_peer.specs.Peers.{Peer, leased, leased_run}
 use Rattle.ro_peer.specs.Gets.{Get, asker, got_in, voted}
 use Rattle.ro_peer.specs.Seen.{peer_of, by_address}
 use Rattle.ro_peer.specs.Leases.{PeerRuns, CameBy, IsAmong, waiting_at}
 use Rattle.ro_peer.specs.Leases.{stopped as came_back}
 use Rattle.ro_peer.proofs.Joining.{in_more_rows, in_rows_both}
 use Rattle.ro_peer.proofs.Parts.{room_left}
-use Rattle.ro_peer.proofs.Steps.{Kept, run_kept}
+use Rattle.ro_peer.proofs.Steps.{Kept, run_kept, run_then}
 use Rattle.ro_peer.proofs.Winning.{among_first, among_second}
 use Rattle.ro_locking.specs.Asking.{below}
 use Rattle.ro_locking.specs.Got.{KeepsNumbers}
 use Rattle.ro_locking.proofs.Adding.{rows_later, same_mutexes}
 use Rattle.ro_locking.proofs.Below.{in_all_rows}
 use Rattle.ro_legal.specs.Core.{Job, Core}
+use Rattle.ro_legal.specs.Sides.{is_ahead}
 use Rattle.ro_legal.specs.Lent.{IsOfJob}
-use Rattle.ro_legal.specs.Cooperative.{Ran, MayPut, MayPart, IsAllowed, Legal, lease_gets, parking_of, arrival, gets_from, opening_core, replay}
+use Rattle.ro_legal.specs.Cooperative.{Ran, MayPut, MayPart, IsAllowed, Legal, lease_run, lease_gets, parking_of, arrival, gets_from, opening_core, replay}
 use Rattle.ro_legal.proofs.Lists.{length-mapped}
 use Rattle.ro_legal.proofs.MutexRuns.{run-keeps}
 use Rattle.ro_legal.proofs.Mutexes.{mutexes-kept}
@@ -45,13 +47,14 @@ use Rattle.ro_cores.specs.Loans.{plain_run, mutexes_in}
 use Rattle.ro_cores.proofs.Numbers.{first_of, numbers-along, numbers-both, same-numbers, same-as-first}
 use Rattle.ro_audit.specs.declared.ranks.Rank.{Rank}
 use Rattle.ro_audit.specs.declared.returning.Told.{Told}
+use Rattle.ro_audit.specs.Audits.{GoesOn, RunsSoFar}
 use Rattle.ro_audit.specs.Following.{AreGot}
 use Rattle.ro_audit.specs.Ranks.{rows_in, won_in}
 use Rattle.ro_audit.specs.Returning.{SameLoan, RunsFor, Looks, StandsBy, StandsAsTold, IsUntold, told_entry}
 use Rattle.ro_audit.proofs.Gets.{among-later}
-use Rattle.ro_audit.proofs.Bounded.{IsBounded, IsRun, as-job, may-come, came-whole}
+use Rattle.ro_audit.proofs.Bounded.{IsBounded, IsRun, as-job, is-out, within, may-come, came-whole}
 use Rattle.ro_audit.proofs.Short.{told-unstruck, told-gets, gets-more}
-use Rattle.ro_audit.proofs.Standing.{IsVoted, IsParked, is-voted, is-parked, moves-no-vote, moves-no-lock, waits-no-vote, stops-no-lock}
+use Rattle.ro_audit.proofs.Standing.{IsVoted, IsParked, is-voted, is-parked, moved, moves-no-vote, moves-no-lock, waits-no-vote, stops-no-lock}
 
 -- the entry with which it comes back is that which is told
 pub return-told : (lease : Lease) (told : Told) (came : Came) → told.hit ≡ 0 → is_some (waiting_at came) ≡ told.waits → return_of lease told.count came ≡ told_entry lease told
@@ -69,6 +72,15 @@ return-told lease told came none waits = by came waits
     by (Owned number) e = part e
     by (Row number) e = part e
     by (Full number) e = part e
+
+-- the other entry of the same counts
+abbrev pub other_entry : Lease → Told → Entry
+other_entry lease told = if told.waits then Put lease told.count told.hit else Part lease told.count told.hit
+
+-- it runs so far, or comes back by the other entry, and not as it is told
+abbrev pub RunsOtherwise : Job → Core → Lease → Told → Type 0
+RunsOtherwise job core lease told =
+    (IsAllowed job core (told_entry lease told) → ⊥) × (IsAllowed job core (other_entry lease told) ⊎ RunsSoFar job core lease told.count told.hit)
 
 module _ {job : Job} {journal : List Entry} {lent new : Lent} {told : Told} {before after : List (Rank × ℕ)} {most count : ℕ} {came : Came}
     (run : IsRun job journal lent new told before after most count came) (long : told.count ≤ count) where
@@ -168,36 +180,55 @@ module _ {job : Job} {journal : List Entry} {lent new : Lent} {told : Told} {bef
   its-lock hit may = is-parked layout watchdog lease.thread end (subst (λ (p : Peer). IsSome (parking_of job core.kernel lease.thread p)) (same-ran may.ran) may.waits)
 
   module _ (less : told.count < job.settings.quantum) (last : Lent) (steps : ℕ) (by : Came) (looks : Looks new last steps by) where
-    no-part : MayPart job core lease told.count told.hit → (steps ≢ 0) ⊎ (is_some (waiting_at by) ≢ true) → ⊥
-    no-part may (inl more) = moves-no-lock layout watchdog lease.thread end (peer_of last.partner.peer) steps by (look last steps by looks) more (its-lock told.hit may)
-    no-part may (inr other) = at steps refl
+    no-part : (hit : ℕ) → MayPart job core lease told.count hit → (steps ≢ 0) ⊎ (is_some (waiting_at by) ≢ true) → ⊥
+    no-part hit may (inl more) = moves-no-lock layout watchdog lease.thread end (peer_of last.partner.peer) steps by (look last steps by looks) more (its-lock hit may)
+    no-part hit may (inr other) = at steps refl
       where
         not-true : (b : Bool) → b ≢ true → b ≡ false
         not-true true h = absurd (h refl)
         not-true false h = refl
 
         at : (n : ℕ) → steps ≡ n → ⊥
-        at zero none = stops-no-lock layout watchdog lease.thread end (peer_of last.partner.peer) steps by (look last steps by looks) none (not-true (is_some (waiting_at by)) other) (its-lock told.hit may)
-        at (suc n) more = moves-no-lock layout watchdog lease.thread end (peer_of last.partner.peer) steps by (look last steps by looks) (λ e. omega arith) (its-lock told.hit may)
+        at zero none = stops-no-lock layout watchdog lease.thread end (peer_of last.partner.peer) steps by (look last steps by looks) none (not-true (is_some (waiting_at by)) other) (its-lock hit may)
+        at (suc n) more = moves-no-lock layout watchdog lease.thread end (peer_of last.partner.peer) steps by (look last steps by looks) (λ e. omega arith) (its-lock hit may)
 
-    no-put : MayPut job core lease told.count told.hit → (steps ≢ 0) ⊎ (is_some (waiting_at by) ≢ false) → ⊥
-    no-put may (inl more) = moves-no-vote layout watchdog lease.thread end (peer_of last.partner.peer) steps by (look last steps by looks) more (its-stop less told.hit may)
-    no-put may (inr other) = at steps refl
+    no-put : (hit : ℕ) → MayPut job core lease told.count hit → (steps ≢ 0) ⊎ (is_some (waiting_at by) ≢ false) → ⊥
+    no-put hit may (inl more) = moves-no-vote layout watchdog lease.thread end (peer_of last.partner.peer) steps by (look last steps by looks) more (its-stop less hit may)
+    no-put hit may (inr other) = at steps refl
       where
         not-false : (b : Bool) → b ≢ false → b ≡ true
         not-false false h = absurd (h refl)
         not-false true h = refl
 
         at : (n : ℕ) → steps ≡ n → ⊥
-        at zero none = waits-no-vote layout watchdog lease.thread end (peer_of last.partner.peer) steps by (look last steps by looks) none (not-false (is_some (waiting_at by)) other) (its-stop less told.hit may)
-        at (suc n) more = moves-no-vote layout watchdog lease.thread end (peer_of last.partner.peer) steps by (look last steps by looks) (λ e. omega arith) (its-stop less told.hit may)
+        at zero none = waits-no-vote layout watchdog lease.thread end (peer_of last.partner.peer) steps by (look last steps by looks) none (not-false (is_some (waiting_at by)) other) (its-stop less hit may)
+        at (suc n) more = moves-no-vote layout watchdog lease.thread end (peer_of last.partner.peer) steps by (look last steps by looks) (λ e. omega arith) (its-stop less hit may)
 
     no-other : (waits : Bool) → IsAllowed job core (if waits then Part lease told.count told.hit else Put lease told.count told.hit) → (steps ≢ 0) ⊎ (is_some (waiting_at by) ≢ waits) → ⊥
-    no-other true may odd = no-part may odd
-    no-other false may odd = no-put may odd
+    no-other true may odd = no-part told.hit may odd
+    no-other false may odd = no-put told.hit may odd
+
+    -- it goes on there, where it takes a step
+    goes-on : steps ≢ 0 → GoesOn job core lease told.count
+    goes-on more = record {
+      early = less;
+      next = ap (λ (o : Option Peer). is_some o) runs-on;
+      no_put = λ hit may. no-put hit may (inl more);
+      no_part = λ hit may. no-part hit may (inl more);
+    }
+      where
+        step : (after : Peer) × (leased layout (asker lease.thread) watchdog end lease.thread ≡ Some after)
+        step = moved layout watchdog lease.thread end (peer_of last.partner.peer) steps by (look last steps by looks) more
+
+        runs-on : lease_run job core lease (told.count + 1) ≡ Some step.0
+        runs-on =
+            ap (option_and_then (λ (p : Peer). leased_run layout (asker lease.thread) watchdog (told.count + 1) p lease.thread)) is.lends.there
+            ∙ (ap (λ (n : ℕ). leased_run layout (asker lease.thread) watchdog (n + 1) peer lease.thread) (sym whole.1)
+            ∙ ((run_then layout watchdog count 1 peer end lease.thread runs-by.runs).0
+            ∙ ap (option_and_then (λ (p : Peer). leased_run layout (asker lease.thread) watchdog 0 p lease.thread)) step.1))
 
   -- what is not so told is not allowed
-  pub untold : IsUntold told new → IsAllowed job core (told_entry lease told) → ⊥
+  untold : IsUntold told new → IsAllowed job core (told_entry lease told) → ⊥
   untold (inl struck) may = struck (told-unstruck job core lease told may)
   untold (inr (inl (all, waits))) may =
       let part = subst (λ (b : Bool). IsAllowed job core (if b then Part lease told.count told.hit else Put lease told.count told.hit)) waits may in
@@ -235,13 +266,67 @@ module _ {job : Job} {journal : List Entry} {lent new : Lent} {told : Told} {bef
       now (Row number) at = (early, at.1)
       now (Full number) at = (early, at.1)
 
+  -- by what it comes back where it is
+  came-back : (last : Lent) (by : Came) → StandsBy told.count new last by → Returned job core lease (peer_of last.partner.peer) told.count by
+  came-back last by stands =
+      let so = came-so last by stands in
+      subst (λ (n : ℕ). Returned job core lease (peer_of last.partner.peer) n by) whole.1
+      (subst (λ (p : Peer). Returned job core lease p count by) (sym so.1)
+      (may-come job core lent is most (rows_in after) (peer_of new.partner.peer) count came runs-by by so.0))
+
+  -- ---- it comes back otherwise
+
+  -- so far it runs
+  so-far : Ran job core lease told.count
+  so-far = record {
+    not_ended = is.lends.not_ended;
+    out = is-out job core lent is;
+    peer = end;
+    runs =
+        ap (option_and_then (λ (p : Peer). leased_run layout (asker lease.thread) watchdog told.count p lease.thread)) is.lends.there
+        ∙ (ap (λ (n : ℕ). leased_run layout (asker lease.thread) watchdog n peer lease.thread) (sym whole.1) ∙ runs-by.runs);
+    within = subst (λ (n : ℕ). list_all (λ get. not (is_ahead core.sides get.mutex get.rank)) (lease_gets job core lease n) ≡ true) whole.1 (within job core lent is most (rows_in after) (peer_of new.partner.peer) count came runs-by);
+  }
+
+  -- by the other entry, where it comes back where it is
+  by-other : (last : Lent) (by : Came) → told.hit ≡ 0 → StandsBy told.count new last by → is_some (waiting_at by) ≡ not told.waits → IsAllowed job core (other_entry lease told)
+  by-other last by none stands waits =
+      subst (IsAllowed job core) (return-told lease (record { count = told.count; hit = told.hit; waits = not told.waits }) by none waits ∙ not-told told.waits) (came-back last by stands).allowed
+    where
+      not-told : (b : Bool) → (if not b then Part lease told.count told.hit else Put lease told.count told.hit) ≡ (if b then Put lease told.count told.hit else Part lease told.count told.hit)
+      not-told true = refl
+      not-told false = refl
+
+  unlike : (b c : Bool) → b ≢ c → b ≡ not c
+  unlike true true h = absurd (h refl)
+  unlike true false h = refl
+  unlike false true h = refl
+  unlike false false h = absurd (h refl)
+
+  -- what is not so told runs so far, and comes back otherwise
+  pub untold-runs : IsUntold told new → RunsOtherwise job core lease told
+  untold-runs odd = (untold odd, by told.hit refl)
+    where
+      -- its thread stands there, or goes on
+      standing : told.hit ≡ 0 → told.count < job.settings.quantum → told.count < new.quantum → (last : Lent) (steps : ℕ) (came_by : Came) → Looks new last steps came_by → (steps ≢ 0) ⊎ (is_some (waiting_at came_by) ≢ told.waits)
+          → IsAllowed job core (other_entry lease told) ⊎ RunsSoFar job core lease told.count told.hit
+      standing none less early last steps came_by looks (inl more) = inr (record { ran = so-far; within = whole.2; odd = inr (goes-on less last steps came_by looks more) })
+      standing none less early last zero Quantum looks (inr other) = absurd (let at = (look last 0 Quantum looks).came_by in omega arith)
+      standing none less early last zero came_by looks (inr other) = inl (by-other last came_by none (early, looks) (unlike (is_some (waiting_at came_by)) told.waits other))
+      standing none less early last (suc n) came_by looks (inr other) = inr (record { ran = so-far; within = whole.2; odd = inr (goes-on less last (suc n) came_by looks (λ e. omega arith)) })
+
+      unstruck : told.hit ≡ 0 → IsUntold told new → IsAllowed job core (other_entry lease told) ⊎ RunsSoFar job core lease told.count told.hit
+      unstruck none (inl struck) = absurd (struck none)
+      unstruck none (inr (inl (all, waits))) = inl (by-other new Quantum none (all, refl) (ap (λ (b : Bool). not b) (sym waits)))
+      unstruck none (inr (inr (early, last, steps, came_by, looks, other))) = standing none (omega (arith, same-quantum, early)) early last steps came_by looks other
+
+      by : (n : ℕ) → told.hit ≡ n → IsAllowed job core (other_entry lease told) ⊎ RunsSoFar job core lease told.count told.hit
+      by zero none = unstruck none odd
+      by (suc n) some = inr (record { ran = so-far; within = whole.2; odd = inl (λ none. omega arith) })
+
   module _ (last : Lent) (by : Came) (stands : StandsAsTold told new last by) where
     its-return : Returned job core lease (peer_of last.partner.peer) told.count by
-    its-return =
-        let so = came-so last by stands.stands in
-        subst (λ (n : ℕ). Returned job core lease (peer_of last.partner.peer) n by) whole.1
-        (subst (λ (p : Peer). Returned job core lease p count by) (sym so.1)
-        (may-come job core lent is most (rows_in after) (peer_of new.partner.peer) count came runs-by by so.0))
+    its-return = came-back last by stands.stands
 
     same-loan : SameLoan new last
     same-loan = (came-so last by stands.stands).2

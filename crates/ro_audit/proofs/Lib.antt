@@ -22,6 +22,8 @@ pub mod VotedReturns
 pub mod Plans
 -- pages that are compared
 pub mod Pages
+-- registers that are compared
+pub mod Registers
 -- who got which rank, in a map
 pub mod Rows
 -- a run of what was lent, and where it stands

@@ -1,5 +1,5 @@
 -- What holds of a cooperative run, by the rules of its job's mode.
-use Rattle.std.specs.Prelude.{◌≡◌, ◌⊎◌, ◌<◌, ◌^◌, ⊤, ℕ, Bool, true, false, not, min, nat_lt, if◌then◌else◌, List, [], ◌∷◌, ◌++◌, length, Some, slice_get, slice_index_or}
+use Rattle.std.specs.Prelude.{◌≡◌, ◌⊎◌, ◌<◌, ◌≤◌, ◌^◌, ⊤, ℕ, Bool, true, false, not, min, nat_lt, if◌then◌else◌, List, [], ◌∷◌, ◌++◌, length, Some, slice_get, slice_index_or}
 use Rattle.std.proofs.Common.{sym, ap, ◌∙◌, subst}
 use Rattle.ro_settings.specs.declared.Mode.TheVariants.{Cooperative}
 use Rattle.ro_journal.specs.declared.Entry.{Entry}
@@ -22,10 +22,11 @@ use Rattle.ro_audit.specs.declared.follower.Why.{Why}
 use Rattle.ro_audit.specs.declared.follower.Why.TheVariants as why
 use Rattle.ro_audit.specs.declared.ranks.Rank.{Rank}
 use Rattle.ro_audit.specs.declared.returning.Told.{Told}
-use Rattle.ro_audit.specs.Audits.{OtherHas, IsReason, IsRefused, got_in}
+use Rattle.ro_audit.specs.Audits.{OtherHas, ComesBackBy, RunsSoFar, IsReason, IsRefused, got_in}
 use Rattle.ro_audit.specs.Following.{LendsPeer, AreGot, KnowsGot}
 use Rattle.ro_audit.specs.Returning.{RunsFor, told_entry, refusal_of}
 use Rattle.ro_audit.proofs.Bounded.{IsRun, bounded}
+use Rattle.ro_audit.proofs.AsTold.{RunsOtherwise, other_entry}
 use Rattle.ro_audit.proofs.Short.{Because, IsTurnedDown}
 
 module _ (job : Job) (journal : List Entry) (mode_is : job.settings.mode ≡ Cooperative) where
@@ -59,16 +60,20 @@ module _ (job : Job) (journal : List Entry) (mode_is : job.settings.mode ≡ Coo
   -- ---- an entry that is turned down
 
   module _ (lease : Lease) (told : Told) where
+    abbrev ComesIn : Mode → (count hit : ℕ) → Type 0
+    ComesIn m count hit = IsAllowed m job (replay m job journal) (Put lease count hit) ⊎ IsAllowed m job (replay m job journal) (Part lease count hit)
+
     comes-so : (other struck : ℕ) → Because job (together.replay job journal) (gets_from job (opening_core job) journal) lease told (why.Ran other struck) → (waits : Bool)
         → IsReason job (rules.replay job journal) (got_in job journal) (if waits then Part lease told.count told.hit else Put lease told.count told.hit) (why.Ran other struck)
     comes-so other struck because waits = by waits
       where
-        may : rules.IsAllowed job (rules.replay job journal) (Put lease other struck) ⊎ rules.IsAllowed job (rules.replay job journal) (Part lease other struck)
-        may = subst (λ (m : Mode). IsAllowed m job (replay m job journal) (Put lease other struck) ⊎ IsAllowed m job (replay m job journal) (Part lease other struck)) (sym mode_is) because.0
+        may : ComesBackBy job (rules.replay job journal) lease told.count told.hit other struck
+        may =
+            subst (λ (m : Mode). ComesIn m other struck × ((later faults : ℕ) → ComesIn m later faults → later ≤ other) × ((other ≡ told.count) × (struck ≡ told.hit) → ⊥)) (sym mode_is) because
 
         by : (waits : Bool) → IsReason job (rules.replay job journal) (got_in job journal) (if waits then Part lease told.count told.hit else Put lease told.count told.hit) (why.Ran other struck)
-        by true = (may, because.1)
-        by false = (may, because.1)
+        by true = may
+        by false = may
 
     others-got : OtherHas job (together.replay job journal) (gets_from job (opening_core job) journal) lease told.count → (waits : Bool)
         → IsReason job (rules.replay job journal) (got_in job journal) (if waits then Part lease told.count told.hit else Put lease told.count told.hit) why.OtherGot
@@ -94,17 +99,21 @@ module _ (job : Job) (journal : List Entry) (mode_is : job.settings.mode ≡ Coo
       is-reason reason down.reason,
     )
 
-    -- its thread stands otherwise
-    pub untold-in : (reason : Why) → reason ≡ refusal_of told → (together.IsAllowed job (together.replay job journal) (told_entry lease told) → ⊥) → IsRefused job journal (told_entry lease told) reason
-    untold-in reason is refuses = (
-      λ may joined. none may,
-      subst (IsReason job (rules.replay job journal) (got_in job journal) (told_entry lease told)) (sym is) (by told.waits none),
+    abbrev Otherwise : Mode → (entry other : Entry) → Type 0
+    Otherwise m entry other =
+        (IsAllowed m job (replay m job journal) entry → ⊥) × (IsAllowed m job (replay m job journal) other ⊎ InMode m ⊥ (RunsSoFar job (replay m job journal) lease told.count told.hit))
+
+    -- it runs so far and does not come back so
+    pub untold-in : (reason : Why) → reason ≡ refusal_of told → RunsOtherwise job (together.replay job journal) lease told → IsRefused job journal (told_entry lease told) reason
+    untold-in reason is otherwise = (
+      λ may joined. here.0 may,
+      subst (IsReason job (rules.replay job journal) (got_in job journal) (told_entry lease told)) (sym is) (by told.waits here),
     )
       where
-        none : rules.IsAllowed job (rules.replay job journal) (told_entry lease told) → ⊥
-        none = subst (λ (m : Mode). IsAllowed m job (replay m job journal) (told_entry lease told) → ⊥) (sym mode_is) refuses
+        here : Otherwise job.settings.mode (told_entry lease told) (other_entry lease told)
+        here = subst (λ (m : Mode). Otherwise m (told_entry lease told) (other_entry lease told)) (sym mode_is) otherwise
 
-        by : (waits : Bool) → (rules.IsAllowed job (rules.replay job journal) (if waits then Part lease told.count told.hit else Put lease told.count told.hit) → ⊥)
+        by : (waits : Bool) → Otherwise job.settings.mode (if waits then Part lease told.count told.hit else Put lease told.count told.hit) (if waits then Put lease told.count told.hit else Part lease told.count told.hit)
             → IsReason job (rules.replay job journal) (got_in job journal) (if waits then Part lease told.count told.hit else Put lease told.count told.hit) (if waits then why.NoPart else why.NoPut)
         by true h = h
         by false h = h

@@ -39,23 +39,23 @@ module _ (job : Job) (journal : List Entry) where
   false-unless false none = refl
 
   -- no such lease is out
-  not-out : (lease : Lease) (entry : Entry) → Returns lease entry → (is_out now lease ≡ true → ⊥) → IsRefused job journal entry NotOut
-  not-out lease entry (count, hit, inl e) none =
-      subst (λ (x : Entry). IsRefused job journal x NotOut) (sym e) (λ m j. none (put-out job.settings.mode job now lease count hit m), false-unless (is_out now lease) none)
-  not-out lease entry (count, hit, inr e) none =
-      subst (λ (x : Entry). IsRefused job journal x NotOut) (sym e) (λ m j. none (part-out job.settings.mode job now lease count hit m), false-unless (is_out now lease) none)
+  not-out : now.ended ≡ None → (lease : Lease) (entry : Entry) → Returns lease entry → (is_out now lease ≡ true → ⊥) → IsRefused job journal entry NotOut
+  not-out going lease entry (count, hit, inl e) none =
+      subst (λ (x : Entry). IsRefused job journal x NotOut) (sym e) (λ m j. none (put-out job.settings.mode job now lease count hit m), (going, false-unless (is_out now lease) none))
+  not-out going lease entry (count, hit, inr e) none =
+      subst (λ (x : Entry). IsRefused job journal x NotOut) (sym e) (λ m j. none (part-out job.settings.mode job now lease count hit m), (going, false-unless (is_out now lease) none))
 
   -- nothing is lent to the driver
-  pub none-lent : (lease : Lease) (entry : Entry) → Returns lease entry → (o : Option LentOf) → o ≡ None → Slot job now lease.driver o → IsRefused job journal entry NotOut
-  none-lent lease entry returns o e s = not-out lease entry returns (none-out now lease (subst (Slot job now lease.driver) e s))
+  pub none-lent : now.ended ≡ None → (lease : Lease) (entry : Entry) → Returns lease entry → (o : Option LentOf) → o ≡ None → Slot job now lease.driver o → IsRefused job journal entry NotOut
+  none-lent going lease entry returns o e s = not-out going lease entry returns (none-out now lease (subst (Slot job now lease.driver) e s))
 
   -- another lease is
-  pub other-lent : (lease : Lease) (entry : Entry) → Returns lease entry → Legal job journal → (o : Option LentOf) (lent : LentOf) → o ≡ Some lent → Slot job now lease.driver o → (lease_in lent ≡ lease → ⊥) → IsRefused job journal entry NotOut
-  other-lent lease entry returns legal o lent e s fails =
-      not-out lease entry returns (λ out. fails (lent-is job now lease lent (one-each job.settings.mode job journal legal) (subst (Slot job now lease.driver) e s) out))
+  pub other-lent : now.ended ≡ None → (lease : Lease) (entry : Entry) → Returns lease entry → Legal job journal → (o : Option LentOf) (lent : LentOf) → o ≡ Some lent → Slot job now lease.driver o → (lease_in lent ≡ lease → ⊥) → IsRefused job journal entry NotOut
+  other-lent going lease entry returns legal o lent e s fails =
+      not-out going lease entry returns (λ out. fails (lent-is job now lease lent (one-each job.settings.mode job journal legal) (subst (Slot job now lease.driver) e s) out))
 
-  pub end-refused : (how : How) → (IsAllowed job now (End how) → ⊥) → IsRefused job journal (End how) NoEnd
-  end-refused how none = (λ m j. none m, none)
+  pub end-refused : (how : How) → now.ended ≡ None → (IsAllowed job now (End how) → ⊥) → IsRefused job journal (End how) NoEnd
+  end-refused how going none = (λ m j. none m, (going, none))
 
 -- ---- a scrub
 

@@ -4,7 +4,7 @@ use Rattle.std.specs.List.{list_all}
 use Rattle.std.specs.Option.{option_and_then}
 use mathlib.Core.Logic.{inl, inr}
 use Rattle.std.proofs.Common.{refl, sym, ap, ◌∙◌, subst, arith, append_assoc, append-nil}
-use Rattle.std.proofs.lemmas.Bool.{ltb-true}
+use Rattle.std.proofs.lemmas.Bool.{ltb-true, cases_order}
 use Rattle.ro_exec.specs.Next.{Layout}
 use Rattle.ro_journal.specs.declared.Entry.{Entry}
 use Rattle.ro_journal.specs.declared.Entry.TheVariants.{Put, Part}
@@ -93,10 +93,13 @@ gets-more job core (first ∷ journal) entry =
 
 -- ---- an entry that is turned down
 
--- why it is: another run comes back, or another thread got what it gets
+-- why it is: another run comes back, and none that is longer; or another thread got what it gets
+abbrev pub Comes : Job → Core → Lease → (count hit : ℕ) → Type 0
+Comes job core lease count hit = IsAllowed job core (Put lease count hit) ⊎ IsAllowed job core (Part lease count hit)
+
 abbrev pub Because : Job → Core → List Get → Lease → Told → Why → Type 0
 Because job core got lease told (why.Ran other struck) =
-    (IsAllowed job core (Put lease other struck) ⊎ IsAllowed job core (Part lease other struck)) × ((other ≡ told.count) × (struck ≡ told.hit) → ⊥)
+    Comes job core lease other struck × ((later faults : ℕ) → Comes job core lease later faults → later ≤ other) × ((other ≡ told.count) × (struck ≡ told.hit) → ⊥)
 Because job core got lease told why.OtherGot = OtherHas job core got lease told.count
 Because job core got lease told why = ⊥
 
@@ -105,12 +108,24 @@ pub record IsTurnedDown (job : Job) (journal : List Entry) (lease : Lease) (told
   pub reason : Because job (replay job journal) (gets_from job (opening_core job) journal) lease told why
 
 -- a return is a put or a part
-either-return : (job : Job) (core : Core) (lease : Lease) (count : ℕ) (came : Came) → IsAllowed job core (return_of lease count came) → IsAllowed job core (Put lease count 0) ⊎ IsAllowed job core (Part lease count 0)
+either-return : (job : Job) (core : Core) (lease : Lease) (count : ℕ) (came : Came) → IsAllowed job core (return_of lease count came) → Comes job core lease count 0
 either-return job core lease count Quantum may = inl may
 either-return job core lease count (Stopped stop) may = inl may
 either-return job core lease count (Owned number) may = inr may
 either-return job core lease count (Row number) may = inr may
 either-return job core lease count (Full number) may = inr may
+
+-- the run of what comes back, within the quantum
+record IsWithin (job : Job) (core : Core) (lease : Lease) (count : ℕ) : Type 0 where
+  ran : Ran job core lease count
+  most : count ≤ job.settings.quantum
+
+told-run : (job : Job) (core : Core) (lease : Lease) (told : Told) → IsAllowed job core (told_entry lease told) → IsWithin job core lease told.count
+told-run job core lease told may = record { ran = told-ran job core lease told may; most = told-within job core lease told may }
+
+its-run : (job : Job) (core : Core) (lease : Lease) (count hit : ℕ) → Comes job core lease count hit → IsWithin job core lease count
+its-run job core lease count hit (inl may) = told-run job core lease (record { count = count; hit = hit; waits = false }) may
+its-run job core lease count hit (inr may) = told-run job core lease (record { count = count; hit = hit; waits = true }) may
 
 module _ {job : Job} {journal : List Entry} {lent new : Lent} {told : Told} {before after : List (Rank × ℕ)} {most count : ℕ} {came : Came}
     (run : IsRun job journal lent new told before after most count came) (short : count < told.count) where
@@ -153,36 +168,45 @@ module _ {job : Job} {journal : List Entry} {lent new : Lent} {told : Told} {bef
   pub within-mutexes : IfSome (waiting_at came) (λ number. number < length new.partner.peer.mutexes)
   within-mutexes = subst (λ (p : Peer). IfSome (waiting_at came) (λ number. number < length p.mutexes)) (sym runs-by.new_is) its-return.within
 
-  -- it comes back so
-  comes : (other struck : ℕ) → other ≡ count → struck ≡ 0
-      → (IsAllowed job core (Put lease other struck) ⊎ IsAllowed job core (Part lease other struck)) × ((other ≡ told.count) × (struck ≡ told.hit) → ⊥)
-  comes other struck counts none = (
-    subst (λ (n : ℕ). IsAllowed job core (Put lease other n) ⊎ IsAllowed job core (Part lease other n)) (sym none)
-        (subst (λ (n : ℕ). IsAllowed job core (Put lease n 0) ⊎ IsAllowed job core (Part lease n 0)) (sym counts) (either-return job core lease count came its-return.allowed)),
-    λ same. (let all : other ≡ told.count = same.0 in omega arith),
-  )
+  -- no run that is longer comes back
+  abbrev NoneLater : Type 0
+  NoneLater = (later : ℕ) → count < later → IsWithin job core lease later → ⊥
+
+  -- it comes back so, and none that is longer does
+  turned : (other struck : ℕ) → other ≡ count → struck ≡ 0 → NoneLater → IsTurnedDown job journal lease told (why.Ran other struck)
+  turned other struck counts none over = record {
+    refuses = λ may rows in_rows. over told.count short (told-run job core lease told may);
+    reason = (
+      subst (λ (n : ℕ). Comes job core lease other n) (sym none) (subst (λ (n : ℕ). Comes job core lease n 0) (sym counts) (either-return job core lease count came its-return.allowed)),
+      λ later faults comes. by later (its-run job core lease later faults comes) (cases_order later count),
+      λ same. (let all : other ≡ told.count = same.0 in omega arith),
+    );
+  }
+    where
+      by : (later : ℕ) → IsWithin job core lease later → (later ≡ count) ⊎ ((later < count) ⊎ (count < later)) → later ≤ other
+      by later its (inl equal) = omega arith
+      by later its (inr (inl less)) = omega arith
+      by later its (inr (inr more)) = absurd (over later more its)
 
   -- and no run is so long
-  none-so-long : leased layout (asker lease.thread) watchdog end lease.thread ≡ None → Ran job core lease told.count → ⊥
-  none-so-long none other =
-      let runs : lease_run job core lease told.count ≡ None =
-      ap (option_and_then (λ (p : Peer). leased_run layout (asker lease.thread) watchdog told.count p lease.thread)) is.lends.there
-      ∙ no-longer layout watchdog lease.thread count told.count peer end runs-by.runs short none in
-      (let f : None ≡ Some other.peer = sym runs ∙ other.runs in cc)
+  none-so-long : leased layout (asker lease.thread) watchdog end lease.thread ≡ None → NoneLater
+  none-so-long none later more its =
+      let runs : lease_run job core lease later ≡ None =
+      ap (option_and_then (λ (p : Peer). leased_run layout (asker lease.thread) watchdog later p lease.thread)) is.lends.there
+      ∙ no-longer layout watchdog lease.thread count later peer end runs-by.runs more none in
+      (let f : None ≡ Some its.ran.peer = sym runs ∙ its.ran.runs in cc)
 
   -- where its thread takes no step more
   stands : (other struck : ℕ) → other ≡ count → struck ≡ 0 → leased layout (asker lease.thread) watchdog end lease.thread ≡ None → IsTurnedDown job journal lease told (why.Ran other struck)
-  stands other struck counts none still = record { refuses = λ may rows in_rows. none-so-long still (told-ran job core lease told may); reason = comes other struck counts none }
+  stands other struck counts none still = turned other struck counts none (none-so-long still)
 
   -- a whole quantum is over
   is-over : (other struck : ℕ) → other ≡ count → struck ≡ 0 → came ≡ Quantum → IsTurnedDown job journal lease told (why.Ran other struck)
-  is-over other struck counts none whole = record {
-    refuses = λ may rows in_rows.
-        let all : count ≡ most = subst (λ (c : Came). CameBy layout watchdog most lease.thread count end c) whole runs-by.came_by in
-        let most_of = told-within job core lease told may in
-        omega arith;
-    reason = comes other struck counts none;
-  }
+  is-over other struck counts none whole = turned other struck counts none (λ later more its. (
+      let all : count ≡ most = subst (λ (c : Came). CameBy layout watchdog most lease.thread count end c) whole runs-by.came_by in
+      let most_of = its.most in
+      omega arith
+      ))
 
   -- ---- at the lock of a free mutex
 
@@ -222,24 +246,22 @@ module _ {job : Job} {journal : List Entry} {lent new : Lent} {told : Told} {bef
         some-injective (sym (at_its_number end.mutexes at.call.a0 number other at.numbered (ap (λ (p : Peer). slice_get p.mutexes number) (sym same-end) ∙ there)) ∙ at.own)
 
     -- its rank is too far ahead
+    none-above : IsAbove new number → NoneLater
+    none-above (found, there, above) later more its =
+        let got = got-there later more in
+        let near = all-middle (λ get. not (is_ahead core.sides get.mutex get.rank)) (got_in layout watchdog count peer lease.thread) next-get got.0
+        (subst (λ (gets : List Get). list_all (λ get. not (is_ahead core.sides get.mutex get.rank)) gets ≡ true) got.1 its.ran.within) in
+        let known = numbered lent.partner.peer.mutexes at.call.a0 number its-number in
+        let small : mutex.rank + 1 < 2 ^ 32 = waits.1.3 in
+        let less = ltb-true mutex.rank (slice_index_or lent.partner.ceilings.items number 0)
+        (is.limits number mutex.rank known.mutex known.there (omega arith)
+        ∙ (ap (λ (address : ℕ). not (is_ahead core.sides address mutex.rank)) known.address_is ∙ near)) in
+        let same : found.rank ≡ mutex.rank = ap (λ (m : Mutex). m.rank) (its-mutex found there) in
+        let over = subst (λ (ceilings : List ℕ). min (slice_index_or ceilings number 0) (2 ^ 32) ≤ found.rank) ran.same.ceilings above in
+        omega arith
+
     is-above : (other struck : ℕ) → other ≡ count → struck ≡ 0 → IsAbove new number → IsTurnedDown job journal lease told (why.Ran other struck)
-    is-above other struck counts none (found, there, above) = record {
-      refuses = λ may rows in_rows. (
-          let run = told-ran job core lease told may in
-          let got = got-there told.count short in
-          let near = all-middle (λ get. not (is_ahead core.sides get.mutex get.rank)) (got_in layout watchdog count peer lease.thread) next-get got.0
-          (subst (λ (gets : List Get). list_all (λ get. not (is_ahead core.sides get.mutex get.rank)) gets ≡ true) got.1 run.within) in
-          let its = numbered lent.partner.peer.mutexes at.call.a0 number its-number in
-          let small : mutex.rank + 1 < 2 ^ 32 = waits.1.3 in
-          let less = ltb-true mutex.rank (slice_index_or lent.partner.ceilings.items number 0)
-          (is.limits number mutex.rank its.mutex its.there (omega arith)
-          ∙ (ap (λ (address : ℕ). not (is_ahead core.sides address mutex.rank)) its.address_is ∙ near)) in
-          let same : found.rank ≡ mutex.rank = ap (λ (m : Mutex). m.rank) (its-mutex found there) in
-          let over = subst (λ (ceilings : List ℕ). min (slice_index_or ceilings number 0) (2 ^ 32) ≤ found.rank) ran.same.ceilings above in
-          omega arith
-          );
-      reason = comes other struck counts none;
-    }
+    is-above other struck counts none above = turned other struck counts none (none-above above)
 
     -- another thread got it
     module _ (legal : Legal job journal) (knows : AreGot (mutexes_in job journal) (gets_from job (opening_core job) journal) (rows_in before)) (others : IsOthers after new number) where
@@ -279,6 +301,7 @@ module _ {job : Job} {journal : List Entry} {lent new : Lent} {told : Told} {bef
         reason = record {
           by = suc count;
           within = omega arith;
+          not_ended = is.lends.not_ended;
           get = next-get;
           gets = (let got = got-there (suc count) (omega arith) in subst (λ (gets : List Get). Contains gets next-get) (sym got.1) (in-middle (got_in layout watchdog count peer lease.thread) next-get got.0));
           before = earlier.get;

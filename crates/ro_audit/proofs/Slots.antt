@@ -1,6 +1,6 @@
 -- What is lent to a driver, behind an entry, by the rules of the job's mode.
 use Rattle.std.proofs.Common.{◌≡◌, ◌≢◌, inl, inr, ℕ, zero, suc, ◌<◌, Bool, true, false, true≢false, not, cond, ◌||◌, List, [], ◌∷◌, ◌++◌, length, Option, Some, None, set, get_or, refl, sym, ap, ◌∙◌, subst, arith, eq-eqb, eqb-true, get_or-set_same, get_or-set_other}
-use Rattle.std.specs.Prelude.{◌==◌, slice_get, slice_index_or, slice_set}
+use Rattle.std.specs.Prelude.{◌==◌, slice_index_or, slice_set}
 use Rattle.std.specs.List.{find, list_any}
 use mathlib.Core.Logic.{dite}
 use native.Mathlib.Decide.{ℕ_discrete}

@@ -100,7 +100,7 @@ module _ (layout : Layout) (watchdog thread : ℕ) (peer : Peer) where
 
   module _ (last : Peer) (steps : ℕ) (came : Came) (looks : PeerRuns layout watchdog 1 thread (λ number rank. None) peer last steps came) where
     -- if there was one, there is a step
-    moved : steps ≢ 0 → (after : Peer) × (leased layout (asker thread) watchdog peer thread ≡ Some after)
+    pub moved : steps ≢ 0 → (after : Peer) × (leased layout (asker thread) watchdog peer thread ≡ Some after)
     moved more = by steps more looks.runs
       where
         at : (n : ℕ) (o : Option Peer) → leased layout (asker thread) watchdog peer thread ≡ o → option_and_then (λ after. leased_run layout (asker thread) watchdog n after thread) o ≡ Some looks.end → (after : Peer) × (leased layout (asker thread) watchdog peer thread ≡ Some after)

@@ -1,7 +1,7 @@
 -- How what is lent of a replica comes back to the core of votes, and how it does not.
-use Rattle.std.proofs.Common.{◌≡◌, ◌⊎◌, inl, inr, ℕ, Bool, true, false, true≢false, List, refl, sym, ap, ◌∙◌, subst}
-use Rattle.std.specs.Prelude.{◌==◌, ◌&&◌, is_some, if◌then◌else◌}
-use Rattle.std.proofs.lemmas.Bool.{and_from, eq-eqb}
+use Rattle.std.proofs.Common.{◌≡◌, ◌⊎◌, inl, inr, ℕ, Bool, true, false, true≢false, List, refl, sym, ◌∙◌, subst, arith}
+use Rattle.std.specs.Prelude.{◌==◌, ◌&&◌, ◌≤◌, is_some, if◌then◌else◌}
+use Rattle.std.proofs.lemmas.Bool.{and_from, and_parts, eq-eqb, eqb-true}
 use Rattle.ro_journal.specs.declared.Entry.{Entry}
 use Rattle.ro_journal.specs.declared.Entry.TheVariants.{Put, Part}
 use Rattle.ro_journal.specs.declared.Lease.{Lease}
@@ -12,7 +12,7 @@ use Rattle.ro_lease.specs.declared.Took.{Took}
 use Rattle.ro_lease.specs.declared.Lent.{Lent}
 use Rattle.ro_lease.specs.declared.Back.{Back}
 use Rattle.ro_lease.specs.Loans.{Becomes, Gives}
-use Rattle.ro_legal.specs.Core.{Job, Core}
+use Rattle.ro_legal.specs.Core.{Job}
 use Rattle.ro_legal.specs.Legal.{replay}
 use Rattle.ro_legal.specs.Legal as votes
 use Rattle.ro_legal.specs.Modes.{Mode}
@@ -24,10 +24,9 @@ use Rattle.ro_core.proofs.Returning.{whole-returns, part-returns}
 use Rattle.ro_cores.specs.Cores.{plain_core}
 use Rattle.ro_cores.specs.Loans.{MayReturn, Returns, entry_of}
 use Rattle.ro_cores.proofs.Lending.{loan-allowed, loan-entry}
-use Rattle.ro_audit.specs.declared.follower.Why.{Why}
 use Rattle.ro_audit.specs.declared.follower.Why.TheVariants.{Ran, NoPut, NoPart}
 use Rattle.ro_audit.specs.declared.returning.Told.{Told}
-use Rattle.ro_audit.specs.Audits.{IsReason, IsRefused, ComesBackBy, got_in}
+use Rattle.ro_audit.specs.Audits.{IsReason, IsRefused, ComesBack, ComesBackBy, got_in}
 use Rattle.ro_audit.specs.Following.{LendsLoan, LendsReplica}
 use Rattle.ro_audit.specs.Returning.{told_entry, otherwise, refusal_of}
 use Rattle.ro_audit.proofs.Runs.{one-return}
@@ -86,11 +85,36 @@ module _ (job : Job) (journal : List Entry) (lent : Lent) (back : Back) (voted :
         by true allowed = inr allowed
         by false allowed = inl allowed
 
+    -- after no other number of instructions
+    as-late : (later faults : ℕ) → ComesBack job (rules.replay job journal) lent.lease later faults → later ≤ back.took.count
+    as-late later faults comes = by brought comes
+      where
+        same : (first other : Entry) → Returns lent.lease first → Returns lent.lease other → IsAllowed job (rules.replay job journal) first → IsAllowed job (rules.replay job journal) other → first ≡ other
+        same first other brings brought may might = one-return job (rules.replay job journal) lent.lease first other brings brought (in-votes first may) (in-votes other might)
+
+        by : ComesBack job (rules.replay job journal) lent.lease back.took.count back.took.hit → ComesBack job (rules.replay job journal) lent.lease later faults → later ≤ back.took.count
+        by (inl may) (inl might) =
+            let e = same (Put lent.lease back.took.count back.took.hit) (Put lent.lease later faults) (back.took.count, back.took.hit, inl refl) (later, faults, inl refl) may might in
+            let counts : back.took.count ≡ later = cc in
+            omega arith
+        by (inl may) (inr might) =
+            let e = same (Put lent.lease back.took.count back.took.hit) (Part lent.lease later faults) (back.took.count, back.took.hit, inl refl) (later, faults, inr refl) may might in
+            absurd (cc)
+        by (inr may) (inl might) =
+            let e = same (Part lent.lease back.took.count back.took.hit) (Put lent.lease later faults) (back.took.count, back.took.hit, inr refl) (later, faults, inl refl) may might in
+            absurd (cc)
+        by (inr may) (inr might) =
+            let e = same (Part lent.lease back.took.count back.took.hit) (Part lent.lease later faults) (back.took.count, back.took.hit, inr refl) (later, faults, inr refl) may might in
+            let counts : back.took.count ≡ later = cc in
+            omega arith
+
     -- by the other entry
-    untold : (waits : Bool) → (IsAllowed job (rules.replay job journal) (if waits then Part lent.lease told.count told.hit else Put lent.lease told.count told.hit) → ⊥)
+    untold : (waits : Bool) → ComesBack job (rules.replay job journal) lent.lease told.count told.hit → (IsAllowed job (rules.replay job journal) (if waits then Part lent.lease told.count told.hit else Put lent.lease told.count told.hit) → ⊥)
         → IsReason job (rules.replay job journal) (got_in job journal) (if waits then Part lent.lease told.count told.hit else Put lent.lease told.count told.hit) (if waits then NoPart else NoPut)
-    untold true none = none
-    untold false none = none
+    untold true (inl put) none = (none, inl put)
+    untold true (inr part) none = absurd (none part)
+    untold false (inl put) none = absurd (none put)
+    untold false (inr part) none = (none, inl part)
 
     -- by other counts
     ran-otherwise : (waits : Bool) → ComesBackBy job (rules.replay job journal) lent.lease told.count told.hit back.took.count back.took.hit
@@ -100,8 +124,12 @@ module _ (job : Job) (journal : List Entry) (lent : Lent) (back : Back) (voted :
 
     reason : (same : Bool) → ((back.took.count == told.count) && (back.took.hit == told.hit)) ≡ same
         → IsReason job (rules.replay job journal) (got_in job journal) (told_entry lent.lease told) (if same then refusal_of told else Ran back.took.count back.took.hit)
-    reason true e = untold told.waits refused
-    reason false e = ran-otherwise told.waits (brought, λ same. true≢false (sym (and_from _ _ (eq-eqb back.took.count told.count same.0) (eq-eqb back.took.hit told.hit same.1)) ∙ e))
+    reason true e =
+        let counts = and_parts (back.took.count == told.count) (back.took.hit == told.hit) e in
+        untold told.waits
+        (subst (λ (n : ℕ). ComesBack job (rules.replay job journal) lent.lease n told.hit) (eqb-true back.took.count told.count counts.0)
+        (subst (λ (n : ℕ). ComesBack job (rules.replay job journal) lent.lease back.took.count n) (eqb-true back.took.hit told.hit counts.1) brought)) refused
+    reason false e = ran-otherwise told.waits (brought, as-late, λ same. true≢false (sym (and_from _ _ (eq-eqb back.took.count told.count same.0) (eq-eqb back.took.hit told.hit same.1)) ∙ e))
 
     pub told-otherwise : IsRefused job journal (told_entry lent.lease told) (otherwise told back.took)
     told-otherwise = (λ allowed joined. refused allowed, reason ((back.took.count == told.count) && (back.took.hit == told.hit)) refl)

@@ -1,5 +1,5 @@
 -- What an audit tells of a journal, by the rules of the job's mode.
-use Rattle.std.specs.Prelude.{◌≡◌, ◌≢◌, ◌⊎◌, ◌≤◌, ℕ, Bool, true, false, List, [], ◌∷◌, ◌++◌, Contains, length, Some, IsSome}
+use Rattle.std.specs.Prelude.{◌≡◌, ◌≢◌, ◌⊎◌, ◌≤◌, ◌<◌, ◌+◌, ℕ, Bool, true, false, List, [], ◌∷◌, ◌++◌, Contains, length, Some, None, IsSome}
 use Rattle.ro_journal.specs.declared.How.TheVariants.{Differ, NoMajority}
 use Rattle.ro_journal.specs.declared.Lease.{Lease}
 use Rattle.ro_journal.specs.declared.Entry.{Entry}
@@ -9,9 +9,10 @@ use Rattle.ro_plans.specs.Plans.{plan_in}
 use Rattle.ro_peer.specs.Gets.{Get}
 use Rattle.ro_legal.specs.Core.{Job, Core, is_out, may_vote, may_free}
 use Rattle.ro_legal.specs.Legal.{MayTake, may_scrub}
-use Rattle.ro_legal.specs.Modes.{in_mode}
+use Rattle.ro_legal.specs.Modes.{InMode, in_mode}
 use Rattle.ro_legal.specs.Rules.{IsAllowed, Legal, DecidesVote, DecidesFree, DecidesScrub, replay, output_of}
 use Rattle.ro_legal.specs.Cooperative.{gets_from, lease_gets, opening_core}
+use Rattle.ro_legal.specs.Cooperative as together
 use Rattle.ro_cores.specs.Cores.{KeepsViews}
 use Rattle.ro_cores.specs.Loans.{IsJoined}
 use Rattle.ro_audit.specs.declared.follower.Why.{Why}
@@ -36,13 +37,39 @@ Compete job core entry came =
     ⊎ ((thread : ℕ) × (may_free job core thread ≡ true) × DecidesFree job core thread entry × DecidesFree job core thread came)
     ⊎ ((scrubs job core ≡ true) × DecidesScrub job core entry × DecidesScrub job core came)
 
--- no such run of the lease comes back, and this one does
+-- the lease comes back after so many instructions, so many faults having struck
+abbrev pub ComesBack : Job → Core → Lease → (count hit : ℕ) → Type 0
+ComesBack job core lease count hit = IsAllowed job core (Put lease count hit) ⊎ IsAllowed job core (Part lease count hit)
+
+-- it comes back by these counts, and after no more instructions; and others are told
 abbrev pub ComesBackBy : Job → Core → Lease → (count hit other struck : ℕ) → Type 0
 ComesBackBy job core lease count hit other struck =
-    (IsAllowed job core (Put lease other struck) ⊎ IsAllowed job core (Part lease other struck)) × ((other ≡ count) × (struck ≡ hit) → ⊥)
+    ComesBack job core lease other struck
+    × ((later faults : ℕ) → ComesBack job core lease later faults → later ≤ other)
+    × ((other ≡ count) × (struck ≡ hit) → ⊥)
+
+-- in a cooperative run: behind so many instructions the lease does not come back, and its thread takes one more
+pub record GoesOn (job : Job) (core : Core) (lease : Lease) (count : ℕ) : Type 0 where
+  pub early : count < job.settings.quantum
+  pub next : IsSome (together.lease_run job core lease (count + 1))
+  pub no_put : (hit : ℕ) → together.MayPut job core lease count hit → ⊥
+  pub no_part : (hit : ℕ) → together.MayPart job core lease count hit → ⊥
+
+-- in a cooperative run: the lease runs so far, and faults are told, of which there are none, or its thread goes on there
+pub record RunsSoFar (job : Job) (core : Core) (lease : Lease) (count hit : ℕ) : Type 0 where
+  pub ran : together.Ran job core lease count
+  pub within : count ≤ job.settings.quantum
+  pub odd : (hit ≢ 0) ⊎ GoesOn job core lease count
+
+-- The lease comes to the counts that are told, but not by the entry: it comes back by the other one, or, in a cooperative run, it
+-- only runs so far.
+abbrev pub ComesOtherwise : Job → Core → Lease → (count hit : ℕ) → (entry other : Entry) → Type 0
+ComesOtherwise job core lease count hit entry other =
+    (IsAllowed job core entry → ⊥) × (IsAllowed job core other ⊎ InMode job.settings.mode ⊥ (RunsSoFar job core lease count hit))
 
 -- within so many instructions the lease gets a mutex at a rank at which another thread got it before
 pub record OtherHas (job : Job) (core : Core) (got : List Get) (lease : Lease) (count : ℕ) : Type 0 where
+  pub not_ended : core.ended ≡ None
   pub by : ℕ
   pub within : by ≤ count
   pub get : Get
@@ -53,26 +80,26 @@ pub record OtherHas (job : Job) (core : Core) (got : List Get) (lease : Lease) (
   pub same_rank : before.rank ≡ get.rank
   pub other_thread : before.thread ≢ get.thread
 
--- What a reason says of an entry that is not allowed in a core, by what was got up to there: another comes in its stead, or the run
--- has ended; the thread can't be lent to the driver; no such lease is out, or its run comes back after other counts; no lease comes
--- back so, at a vote or at a lock; another thread got a mutex that the lease gets; the thread can't be voted on, or has no call that
--- may be served; no scrub may be made; the run does not end so.
+-- What a reason says of an entry that is not allowed in a core, by what was got up to there. Behind the end there is one reason, that
+-- the run has ended. Else another entry comes in its stead; the thread can't be lent to the driver; no such lease is out, or its run comes back after other counts; it comes to
+-- these counts, but not by this entry; another thread got a mutex that the lease gets; the thread can't be voted on, or has no call
+-- that may be served; no scrub may be made; the run goes on, and no end that may come is this one.
 abbrev pub IsReason : Job → Core → (got : List Get) → Entry → Why → Type 0
 IsReason job core got entry (Comes came) = IsAllowed job core came × (came ≢ entry) × Compete job core entry came
 IsReason job core got entry Behind = IsSome core.ended
-IsReason job core got (Take lease) NotLendable = MayTake job core lease → ⊥
-IsReason job core got (Put lease count hit) NotOut = is_out core lease ≡ false
-IsReason job core got (Part lease count hit) NotOut = is_out core lease ≡ false
+IsReason job core got (Take lease) NotLendable = (core.ended ≡ None) × (MayTake job core lease → ⊥)
+IsReason job core got (Put lease count hit) NotOut = (core.ended ≡ None) × (is_out core lease ≡ false)
+IsReason job core got (Part lease count hit) NotOut = (core.ended ≡ None) × (is_out core lease ≡ false)
 IsReason job core got (Put lease count hit) (Ran other struck) = ComesBackBy job core lease count hit other struck
 IsReason job core got (Part lease count hit) (Ran other struck) = ComesBackBy job core lease count hit other struck
-IsReason job core got (Put lease count hit) NoPut = IsAllowed job core (Put lease count hit) → ⊥
-IsReason job core got (Part lease count hit) NoPart = IsAllowed job core (Part lease count hit) → ⊥
+IsReason job core got (Put lease count hit) NoPut = ComesOtherwise job core lease count hit (Put lease count hit) (Part lease count hit)
+IsReason job core got (Part lease count hit) NoPart = ComesOtherwise job core lease count hit (Part lease count hit) (Put lease count hit)
 IsReason job core got (Put lease count hit) OtherGot = OtherHas job core got lease count
 IsReason job core got (Part lease count hit) OtherGot = OtherHas job core got lease count
-IsReason job core got (Vote thread count won lost did) NoVote = may_vote core thread ≡ false
-IsReason job core got (Free thread) NoFree = may_free job core thread ≡ false
-IsReason job core got (Scrub won lost) NoScrub = scrubs job core ≡ false
-IsReason job core got (End how) NoEnd = IsAllowed job core (End how) → ⊥
+IsReason job core got (Vote thread count won lost did) NoVote = (core.ended ≡ None) × (may_vote core thread ≡ false)
+IsReason job core got (Free thread) NoFree = (core.ended ≡ None) × (may_free job core thread ≡ false)
+IsReason job core got (Scrub won lost) NoScrub = (core.ended ≡ None) × (scrubs job core ≡ false)
+IsReason job core got (End how) NoEnd = (core.ended ≡ None) × (IsAllowed job core (End how) → ⊥)
 IsReason job core got entry why = ⊥
 
 -- behind the journal the entry is not allowed, or what is got by then stands in no rows; and this is why

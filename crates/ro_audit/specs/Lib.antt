@@ -1,4 +1,5 @@
 pub mod Pages
+pub mod Registers
 pub mod Audits
 pub mod Following
 pub mod Ranks

@@ -1,5 +1,6 @@
 //! What differs in a copy that a vote or a scrub makes.
-ghost use Rattle.std.specs.Prelude.{◌≡◌, ◌≢◌, ◌↔◌, IsTrue};
+ghost use Rattle.std.specs.Prelude.{◌≡◌, ◌≢◌, ◌⊎◌, ◌<◌, ◌↔◌, ℕ, IsTrue};
+ghost use Rattle.ro_audit.specs.Registers.{IsMarked, AreUnequal};
 
 use crate::audit_cores::AuditCore;
 use crate::whole::Whole;
@@ -62,8 +63,9 @@ pub struct Parts {
 }
 
 impl Parts {
-    /// The parts in which two views differ. Which registers are among them is told without a clause.
+    /// The parts in which two views differ.
     pub fn between(one: &View, other: &View) -> Parts
+        ensures registers { AreUnequal result.registers one.now.registers other.now.registers }
         ensures pc { IsTrue result.pc ↔ (one.now.pc ≢ other.now.pc) }
         ensures since { IsTrue result.since ↔ (one.now.since ≢ other.now.since) }
         ensures stop { IsTrue result.stop ↔ (one.now.stop ≢ other.now.stop) }
@@ -79,20 +81,32 @@ impl Parts {
     }
 
     /// Whether register xN differs, N from 1 to 31.
-    pub fn has_register(self, number: u32) -> bool {
-        number < 32 && self.registers & (1 << number) != 0
+    pub fn has_register(self, number: u32) -> bool
+        ensures { IsTrue result ↔ ((number < 32) × IsMarked self.registers number) }
+    {
+        number < 32 && (self.registers >> number) % 2 == 1
     }
 }
 
 // Of which registers x1 to x31 the values are not the same: bit n for xn.
-fn unequal(one: &[u32; 31], other: &[u32; 31]) -> u32 {
+fn unequal(one: &[u32; 31], other: &[u32; 31]) -> u32
+    ensures { AreUnequal result one.now other.now }
+{
     let mut registers = 0;
-    for number in 0..31u32 {
-        if one[number as usize] != other[number as usize] {
-            registers |= 2 << number;
+    for place in 0..31u32 {
+        if one[place as usize] != other[place as usize] {
+            registers = with_register(registers, place + 1);
         }
     }
     registers
+}
+
+// These registers and this one.
+fn with_register(registers: u32, number: u32) -> u32
+    requires { number < 32 }
+    ensures { (other : ℕ) → IsMarked result other ↔ ((other ≡ number) ⊎ IsMarked registers other) }
+{
+    registers | 1u32 << number
 }
 
 /// A thread of a replica that is at home, where it stands still.

@@ -209,6 +209,7 @@ impl<C: AuditCore> Follower<C> {
     fn take(&mut self, lease: Lease) -> Result<Option<Why>, AllocError>
         requires holds { C.holds self.old.core }
         requires follows { Follows (C.seen self.old.core) self.old.lent.items (C.got_of self.old.got) self.old.output.items }
+        requires going { (left_by (C.seen self.old.core)).ended ≡ None }
         ensures holds { C.holds self.new.core }
         ensures job { (C.seen self.new.core).job ≡ (C.seen self.old.core).job }
         ensures followed { IfOk result (λ why. Followed (C.seen self.old.core) (Take lease) why (C.seen self.new.core) self.new.lent.items (C.got_of self.new.got) self.new.output.items) }
@@ -226,6 +227,7 @@ impl<C: AuditCore> Follower<C> {
     fn come_back(&mut self, lease: Lease, entry: &Entry) -> Result<Option<Why>, AllocError>
         requires holds { C.holds self.old.core }
         requires follows { Follows (C.seen self.old.core) self.old.lent.items (C.got_of self.old.got) self.old.output.items }
+        requires going { (left_by (C.seen self.old.core)).ended ≡ None }
         requires returns { Returns lease entry.now }
         ensures holds { C.holds self.new.core }
         ensures job { (C.seen self.new.core).job ≡ (C.seen self.old.core).job }
@@ -293,6 +295,7 @@ impl<C: AuditCore> Follower<C> {
     fn scrub_noted(&mut self, won: u32, lost: Lost) -> Result<Option<Why>, AllocError>
         requires holds { C.holds self.old.core }
         requires follows { Follows (C.seen self.old.core) self.old.lent.items (C.got_of self.old.got) self.old.output.items }
+        requires going { (left_by (C.seen self.old.core)).ended ≡ None }
         ensures holds { C.holds self.new.core }
         ensures job { (C.seen self.new.core).job ≡ (C.seen self.old.core).job }
         ensures followed { IfOk result (λ why. Followed (C.seen self.old.core) (Scrub won lost) why (C.seen self.new.core) self.new.lent.items (C.got_of self.new.got) self.new.output.items) }
@@ -371,6 +374,7 @@ impl<C: AuditCore> Follower<C> {
     fn end(&mut self, how: How) -> Result<Option<Why>, AllocError>
         requires holds { C.holds self.old.core }
         requires follows { Follows (C.seen self.old.core) self.old.lent.items (C.got_of self.old.got) self.old.output.items }
+        requires going { (left_by (C.seen self.old.core)).ended ≡ None }
         ensures holds { C.holds self.new.core }
         ensures job { (C.seen self.new.core).job ≡ (C.seen self.old.core).job }
         ensures followed { IfOk result (λ why. Followed (C.seen self.old.core) (End how) why (C.seen self.new.core) self.new.lent.items (C.got_of self.new.got) self.new.output.items) }

@@ -54,7 +54,7 @@ pub enum Ended {
         next: u64,
         threads: Vec<Standing>,
     },
-    /// Two replicas differ.
+    /// The replicas differ: two of a run by votes, or those of a cooperative run.
     Differ(Split),
     /// No more than half of the replicas agree.
     NoMajority(Split),

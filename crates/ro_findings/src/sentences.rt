@@ -77,7 +77,7 @@ fn tell_end(text: &mut String, end: &Option<Ended>) -> Result<(), AllocError> {
             threads,
         } => tell_limit(text, *steps, *next, threads.as_slice()),
         Ended::Differ(split) => {
-            writeln!(text, "The two replicas differ.")?;
+            writeln!(text, "The replicas differ.")?;
             tell_split(text, split)
         }
         Ended::NoMajority(split) => {

@@ -1,6 +1,6 @@
 -- How replicas that differ at the end of a run are told.
-use Rattle.std.proofs.Common.{◌≡◌, ◌≢◌, ◌⊎◌, inl, inr, ◌≤◌, List, [], ◌∷◌, length, Option, Some, None, sym, ap, ◌∙◌, subst, arith, IfSome}
-use Rattle.std.specs.Prelude.{option_map}
+use Rattle.std.proofs.Common.{◌≡◌, ◌≢◌, ◌⊎◌, inl, inr, ◌≤◌, Bool, true, false, List, [], ◌∷◌, length, Option, Some, None, refl, sym, ap, ◌∙◌, subst, arith, IfSome}
+use Rattle.std.specs.Prelude.{◌||◌, is_none, option_map}
 use Rattle.std.proofs.lemmas.Bool.{and_parts}
 use Rattle.ro_settings.specs.declared.Mode.TheVariants.{Voted, Cooperative}
 use Rattle.ro_event.specs.declared.stops.Stop.TheVariants.{Watchdog}
@@ -10,12 +10,17 @@ use Rattle.ro_journal.specs.declared.How.TheVariants as how
 use Rattle.ro_journal.specs.declared.Entry.{Entry}
 use Rattle.ro_journal.specs.declared.Entry.TheVariants.{End}
 use Rattle.ro_journal.specs.Plan.{outcome_of}
+use Rattle.ro_kernel.specs.Reserved.{reservation_of}
 use Rattle.ro_legal.specs.Core.{Job, opening_core}
 use Rattle.ro_legal.specs.Legal.{Legal as IsLegal, EndsVote, replay}
-use Rattle.ro_legal.specs.Cooperative.{Legal as IsLegalTogether, AreAll}
+use Rattle.ro_legal.specs.Sides.{Side}
+use Rattle.ro_legal.specs.Cooperative as together
+use Rattle.ro_legal.specs.Cooperative.{Legal as IsLegalTogether, AreAll, answered_alike}
 use Rattle.ro_legal.specs.Modes.{Mode, InMode, Suits, Legal as IsLegalIn}
 use Rattle.ro_legal.specs.Rules.{IsFit, Legal as IsLegalBy}
 use Rattle.ro_legal.proofs.Journals.{LegalFrom-parts}
+use Rattle.ro_legal.proofs.TogetherJournals.{LegalFrom-parts as LegalFrom-parts-together}
+use Rattle.ro_legal.proofs.Together.{keeps-replicas}
 use Rattle.ro_legal.proofs.Ordered.{vote-parts}
 use Rattle.ro_legal.proofs.Outcomes.{ended_is_outcome}
 use Rattle.ro_legal.proofs.Winners.{views-count}
@@ -84,9 +89,21 @@ module _ (job : Job) (entries : List Entry) (unstruck : job.faults ≡ []) (lega
   unlike views keeps (inl e) = keeps e
   unlike views keeps (inr e) = absurd (no-majority job entries unstruck legal e)
 
-  -- no views would all be one
+  -- with no views there are no replicas
+  no_sides : (shows : ShowsUnlike job entries []) → length (together.replay job shows.before).sides ≡ 0
+  no_sides shows =
+      let front = (LegalFrom-parts-together job (together.opening_core job) shows.before (End how.Differ ∷ []) (subst (IsLegalTogether job) shows.journal_is legal)).0 in
+      let k = keeps-replicas job shows.before unstruck front in
+      k.side_count ∙ sym k.replica_count ∙ sym (ap (λ (vs : List View). length vs) shows.views_are ∙ views-count job (together.replay job shows.before) shows.thread (and_parts _ _ shows.may).1)
+
+  -- so that none could differ
   none_unlike : ShowsUnlike job entries [] → ⊥
-  none_unlike shows = shows.differ some_view (subst (AreAll some_view) shows.views_are tt)
+  none_unlike shows = shows.differ some_view (subst (AreAll some_view) shows.views_are tt, by (is_none (reservation_of (together.replay job shows.before).kernel.reserved shows.thread)) (together.replay job shows.before).sides (no_sides shows))
+    where
+      by : (none : Bool) (sides : List Side) → length sides ≡ 0 → (none || answered_alike shows.thread sides) ≡ true
+      by true sides e = refl
+      by false [] e = refl
+      by false (s ∷ sides) e = absurd (omega arith)
 
 -- ---- by the mode
 

@@ -361,7 +361,7 @@ fn differing_views(rt: HostRuntime) -> Result<(), Fail> {
     let sentences = [
         "legal",
         "The journal has 8 entries, and its plan 3 steps.",
-        "The two replicas differ.",
+        "The replicas differ.",
         "pc: 00010054 (main) 00010058",
         "instructions since the last vote: 2 3",
         "a0 (x10): 00000007 000000ff",

@@ -11,13 +11,13 @@ pub returns-in_default-clause-followed : goal.returns-in_default-clause-followed
 returns-in_default-clause-followed g c =
     let core = g.C.RunCore.seen c.args.self.now.core in
     let slot : slice_index_or c.args.self.now.lent.items c.args.lease.driver None ≡ None = ap (λ (xs : List (Option LentOf)). slice_index_or xs c.args.lease.driver None) (sym c.as_mut_slice.ensures.value) ∙ sym c.take_back.ensures.lent ∙ c.in_default.is in
-    none-lent core.job core.journal c.args.lease c.args.entry.now c.requires.returns (slice_index_or c.args.self.now.lent.items c.args.lease.driver None) slot (c.requires.follows.slots c.args.lease.driver)
+    none-lent core.job core.journal c.requires.going c.args.lease c.args.entry.now c.requires.returns (slice_index_or c.args.self.now.lent.items c.args.lease.driver None) slot (c.requires.follows.slots c.args.lease.driver)
 
 pub returns-then-not-is_of-clause-followed : goal.returns-then-not-is_of-clause-followed
 returns-then-not-is_of-clause-followed g c =
     let core = g.C.RunCore.seen c.args.self.now.core in
     let slot : slice_index_or c.args.self.now.lent.items c.args.lease.driver None ≡ Some c.in-Some.loan = ap (λ (xs : List (Option LentOf)). slice_index_or xs c.args.lease.driver None) (sym c.as_mut_slice.ensures.value) ∙ sym c.take_back.ensures.lent ∙ c.in-Some.is in
-    other-lent core.job core.journal c.args.lease c.args.entry.now c.requires.returns c.requires.follows.legal (slice_index_or c.args.self.now.lent.items c.args.lease.driver None) c.in-Some.loan slot (c.requires.follows.slots c.args.lease.driver)
+    other-lent core.job core.journal c.requires.going c.args.lease c.args.entry.now c.requires.returns c.requires.follows.legal (slice_index_or c.args.self.now.lent.items c.args.lease.driver None) c.in-Some.loan slot (c.requires.follows.slots c.args.lease.driver)
     (λ its. true≢false (sym (c.is_of.ensures.1 its) ∙ c.if-not-is_of.true))
 
 pub returns-in-Ok-clause-followed : goal.returns-in-Ok-clause-followed

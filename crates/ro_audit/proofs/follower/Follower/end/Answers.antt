@@ -42,6 +42,6 @@ returns-in-Some-OfFree-clause-followed g c =
 pub returns-in-None-clause-followed : goal.returns-in-None-clause-followed
 returns-in-None-clause-followed g c =
     let core = g.C.RunCore.seen c.args.self.now.core in
-    end-refused core.job core.journal c.args.how
+    end-refused core.job core.journal c.args.how c.requires.going
     (no-such-end core.job core.journal c.args.how c.requires.follows.fit c.requires.follows.legal
     (λ e. true≢false (sym (c.ends_now.ensures.1 e) ∙ c.if-ends_now.false)) (c.place_of.ensures.none c.in-None.is))

@@ -6,7 +6,7 @@ use Rattle.ro_audit.specs.Audits.{IsRefused}
 use Rattle.ro_audit.specs.Following.{KnowsGot}
 use Rattle.ro_audit.specs.Returning.{told_entry}
 use Rattle.ro_audit.proofs.Short.{within-mutexes, turned-down}
-use Rattle.ro_audit.proofs.AsTold.{still-going, still-counts, untold, comes-back, knows-more}
+use Rattle.ro_audit.proofs.AsTold.{still-going, still-counts, untold-runs, comes-back, knows-more}
 use Rattle.ro_audit.proofs.Modes.{its-run, got-in, in-got, turned-down-in, untold-in}
 use Rattle.ro_audit.proofs.together.CoreAuditCore.come_back.Goals as goal
 
@@ -69,4 +69,4 @@ returns-in-Err-clause-returns c =
     let entry = c.of-told.ensures c.args.lent.lease c.requires.returns in
     subst (λ (e : Entry). IsRefused job journal e c.in-Err.why) (sym entry)
     (untold-in job journal c.requires.holds.1 c.args.lent.lease c.of-told.result c.in-Err.why c.in-Err.ensures.0
-    (untold run c.if-ran-told.false c.in-Err.ensures.1))
+    (untold-runs run c.if-ran-told.false c.in-Err.ensures.1))

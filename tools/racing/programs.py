@@ -219,18 +219,21 @@ def draw_program(draw: random.Random) -> bytes:
 
 def draw_plan(draw: random.Random, machine: Replay, most: int) -> Plan:
     """Takes steps of drawn threads, at most so many, until none has one."""
-    plan, thread, stays = [], 0, draw.choice((0, 3, 10, 30))
-    while sum(count for _, count in plan) < most:
-        if draw.randrange(stays + 1) == 0:
-            thread = draw.randrange(len(machine.threads))
-        numbers = [thread, *draw.sample(range(len(machine.threads)), len(machine.threads))]
-        thread = next((number for number in numbers if takes(machine, number)), None)
-        if thread is None:
-            break
+    plan, taken, thread, stays = [], 0, 0, draw.choice((0, 3, 10, 30))
+    able, kernel = [0], machine.kernel  # who may have a step, as long as the kernel stays so
+    while able and taken < most:
+        if thread not in able or draw.randrange(stays + 1) == 0:
+            thread = draw.choice(able)
+        if not takes(machine, thread):
+            able.remove(thread)
+            continue
+        taken += 1
         if plan and plan[-1][0] == thread:
             plan[-1] = thread, plan[-1][1] + 1
         else:
             plan.append((thread, 1))
+        if machine.kernel is not kernel:
+            able, kernel = list(range(len(machine.threads))), machine.kernel
     return plan
 
 

@@ -8,7 +8,7 @@ static once_flag once = ONCE_FLAG_INIT;
 static mtx_t plain, recursive;
 static cnd_t arrived;
 static tss_t own;
-static int made, count, destroyed;
+static int made, count, destroyed, is_over;
 
 static void make(void)
 {
@@ -41,6 +41,24 @@ static int work(void *argument)
     return 10 + *(int *)argument;
 }
 
+static int end(void *argument)
+{
+    CHECK(argument == NULL && mtx_lock(&plain) == thrd_success);
+    is_over = 1;
+    CHECK(cnd_signal(&arrived) == thrd_success && mtx_unlock(&plain) == thrd_success);
+    return 0;
+}
+
+static void wait_for_detached(void)
+{
+    thrd_t thread;
+    CHECK(thrd_create(&thread, end, NULL) == thrd_success && thrd_detach(thread) == thrd_success);
+    CHECK(mtx_lock(&plain) == thrd_success);
+    while (!is_over)
+        CHECK(cnd_wait(&arrived, &plain) == thrd_success);
+    CHECK(mtx_unlock(&plain) == thrd_success);
+}
+
 int main(void)
 {
     thrd_t threads[THREADS];
@@ -55,6 +73,7 @@ int main(void)
     for (int i = 0; i < THREADS; i++)
         CHECK(thrd_join(threads[i], &result) == thrd_success && result == 10 + i);
     CHECK(made == 1 && destroyed == THREADS);
+    wait_for_detached();
     CHECK(mtx_lock(&plain) == thrd_success && mtx_trylock(&plain) == thrd_busy && mtx_unlock(&plain) == thrd_success);
     tss_delete(own);
     cnd_destroy(&arrived);

@@ -31,9 +31,12 @@ int main(void)
     pthread_attr_t attributes;
     pthread_condattr_t of_condition;
     pthread_t thread;
-    int state;
+    int state, shared;
     size_t size;
-    CHECK(pthread_condattr_init(&of_condition) == 0 && pthread_cond_init(&ended, &of_condition) == 0);
+    CHECK(pthread_condattr_init(&of_condition) == 0 && pthread_condattr_setpshared(&of_condition, 99) == EINVAL);
+    CHECK(pthread_condattr_setpshared(&of_condition, PTHREAD_PROCESS_SHARED) == 0);
+    CHECK(pthread_condattr_getpshared(&of_condition, &shared) == 0 && shared == PTHREAD_PROCESS_SHARED);
+    CHECK(pthread_cond_init(&ended, &of_condition) == 0);
     CHECK(pthread_condattr_destroy(&of_condition) == 0);
     CHECK(pthread_attr_init(&attributes) == 0);
     CHECK(pthread_attr_getdetachstate(&attributes, &state) == 0 && state == PTHREAD_CREATE_JOINABLE);
@@ -46,6 +49,6 @@ int main(void)
     wait_for(2);
     CHECK(pthread_create(&thread, NULL, work, NULL) == 0 && pthread_detach(thread) == 0);
     wait_for(3);
-    CHECK(pthread_attr_destroy(&attributes) == 0);
+    CHECK(pthread_attr_destroy(&attributes) == 0 && pthread_cond_destroy(&ended) == 0);
     return all_hold();
 }

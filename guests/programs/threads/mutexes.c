@@ -28,7 +28,9 @@ static void init(pthread_mutex_t *mutex, int type)
     CHECK(pthread_mutexattr_init(&attributes) == 0 && pthread_mutexattr_settype(&attributes, 99) == EINVAL);
     CHECK(pthread_mutexattr_settype(&attributes, type) == 0);
     CHECK(pthread_mutexattr_gettype(&attributes, &found) == 0 && found == type);
-    CHECK(pthread_mutexattr_setpshared(&attributes, PTHREAD_PROCESS_PRIVATE) == 0);
+    CHECK(pthread_mutexattr_setpshared(&attributes, 99) == EINVAL);
+    CHECK(pthread_mutexattr_setpshared(&attributes, PTHREAD_PROCESS_SHARED) == 0);
+    CHECK(pthread_mutexattr_getpshared(&attributes, &found) == 0 && found == PTHREAD_PROCESS_SHARED);
     CHECK(pthread_mutex_init(mutex, &attributes) == 0 && pthread_mutexattr_destroy(&attributes) == 0);
 }
 

@@ -31,7 +31,8 @@ STRETCH, END = 8, 80  # how much wider a run of few marks is drawn, and the room
 COLOURS = {"served": "#2171b5", "blocked": "#e6890a", "parked": "#8c510a", "mapped": "#6a51a3", "watch": "#8c8c8c",
            "trapped": "#a50f15", "free": "#238b45", "scrub": "#d4449c"}
 MEANS = {"served": "call served", "blocked": "call waits", "parked": "mutex left, call waits", "mapped": "page needed",
-         "watch": "watchdog", "trapped": "trap", "free": "a waiting call served", "scrub": "scrub, all replicas compared whole"}
+         "watch": "watchdog", "trapped": "trap", "free": "a waiting call served", "scrub": "scrub"}
+NO_VOTES = "free", "scrub"
 RED, GREY, RUNS, LOST, BESIDE, PARTS = "#d62728", "#666666", "#9ecae1", "#f4a6a6", "#08306b", "#333333"
 OVERVIEW, LINE = 34, 3  # the height of the overview, and of a line below a bar
 
@@ -350,11 +351,13 @@ class Picture:
         """The summary, and below it what the marks mean, as far as they come."""
         told = ", ".join(f"{what} {count}" for what, count in self.summary.items())
         self.text(10, 18, f"{told}; end {self.drawing.end}" if told else f"end {self.drawing.end}")
+        come = [what for what in COLOURS if any(mark.what == what for mark in self.drawing.marks)]
+        others, votes = [what for what in come if what in NO_VOTES], [what for what in come if what not in NO_VOTES]
         x = 10
-        for what in COLOURS:
-            if any(mark.what == what for mark in self.drawing.marks):
+        for what in [*others, *(["votes:"] if votes else []), *votes]:
+            if what in COLOURS:
                 self.add("line", x1=number(x + 4), y1=30, x2=number(x + 4), y2=44, stroke=COLOURS[what], stroke_width=2)
-                x = self.label(x + 12, MEANS[what] if what in ("free", "scrub") else f"vote, {MEANS[what]}")
+            x = self.label(x + 12, MEANS[what]) if what in COLOURS else self.label(x, what)
         for colour, label in (RUNS, "runs"), (LOST, "runs behind a strike"):
             if colour == RUNS or self.drawing.strikes:
                 self.add("rect", x=number(x), y=33, width=14, height=BAR, fill=colour)
@@ -373,7 +376,7 @@ class Picture:
 
     def label(self, x, text, y=41):
         self.text(x, y, text)
-        return x + 14 + 5.3 * len(text)
+        return x + 12 + 5.9 * len(text)
 
     def whole(self):
         """All of the run in one strip to scale: votes by their colour, strikes and copies above it."""

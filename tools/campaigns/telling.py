@@ -5,6 +5,7 @@ import math
 from campaigns.drawing import KINDS, REGISTERS
 from campaigns.forms import figure, markdown, save, shown_rate
 from campaigns.judging import FATES, FATES_ALONE
+from campaigns.ways import WAY, more_of
 
 COLOURS = {"vanished": "#9ecae1", "overwritten": "#2171b5", "stopped": "#6a51a3", "no majority": "#fdae6b",
            "outvoted": "#e6550d", "not reached": "#d9d9d9", "differs": "#a50f15", "silent corruption": "#d94801",
@@ -33,8 +34,8 @@ def fates_of(rows):
 
 
 def fates_by(rows, column, title, order=None):
-    """By the values of a column how often each fate came, and the share of runs that were found, or harmed where nobody
-    compares, with its interval."""
+    """By the values of a column how often each fate came, and the share of runs that were found, or where nobody compares of
+    those that were harmed, the architectural vulnerability factor, with its interval."""
     fates, told = fates_of(rows), HARMED if is_alone(rows) else FOUND
     groups = {value: some for (value,), some in groups_of(rows, column)}
     lines = []
@@ -44,7 +45,7 @@ def fates_by(rows, column, title, order=None):
             reached = counts.total() - counts["not reached"]
             lines.append([value, counts.total(), *(counts[fate] for fate in fates),
                           shown_rate(sum(counts[fate] for fate in told), reached)])
-    share = "% harmed (95 %)" if is_alone(rows) else "% found (95 %)"
+    share = "AVF % (95 %)" if is_alone(rows) else "% found (95 %)"
     return markdown([title, "runs", *fates, share], lines) if lines else ""
 
 
@@ -67,12 +68,13 @@ def latencies(rows):
 
 
 def table(rows):
-    """A campaign's tables in Markdown; one part for each machine, number of replicas and pattern."""
+    """The tables of campaigns in Markdown; one part for each way in which runs were made, since the same faults are drawn for
+    several."""
     text = ""
-    for (machine, replicas, pattern), some in groups_of(rows, "machine", "replicas", "pattern"):
+    for (machine, replicas, pattern, *_), some in groups_of(rows, *WAY):
         what = "unreplicated" if machine == "unreplicated" else f"{replicas} replicas"
         seeds = ", ".join(map(str, sorted({row.seed for row in some})))
-        text += f"### {what}, {pattern}\n\n{len(some)} runs, seed {seeds}.\n\n"
+        text += f"### {what}, {pattern}{more_of(some[0])}\n\n{len(some)} runs, seed {seeds}.\n\n"
         text += fates_by(some, "program", "program") + fates_by(some, "kind", "struck", KINDS)
         text += fates_by([row for row in some if row.kind == "reg"], "place", "register", REGISTERS)
         text += fates_by([row for row in some if row.kind == "pc"], "bit", "pc bit")
@@ -84,14 +86,14 @@ def table(rows):
 
 
 def plot_fates(rows, path):
-    """A bar for each program and machine: what became of the faults, and of how many runs. Where replicas ran the legend has
+    """A bar for each program and way: what became of the faults, and of how many runs. Where replicas ran the legend has
     `differs` though there may be none."""
-    groups = groups_of(rows, "program", "machine", "replicas", "pattern")[::-1]
+    groups = groups_of(rows, "program", *WAY)[::-1]
     drawn, axes = figure(1 + 0.25 * len(groups))
     names, left = [], [0.0] * len(groups)
-    for (program, machine, replicas, pattern), some in groups:
+    for (program, machine, replicas, pattern, *_), some in groups:
         what = "one machine alone" if machine == "unreplicated" else f"{replicas} replicas"
-        names.append(f"{program}, {what}" + ("" if pattern == "one" else f", {pattern}"))
+        names.append(f"{program}, {what}" + ("" if pattern == "one" else f", {pattern}") + more_of(some[0]))
     for fate, colour in COLOURS.items():
         shares = [100 * sum(row.fate == fate for row in some) / len(some) for _, some in groups]
         if any(shares) or fate == "differs" and not all(is_alone(some) for _, some in groups):

@@ -219,7 +219,7 @@ class Server:
         while history.place < min(goal, history.length):
             hit = history.forward(min(goal, history.place + AT_ONCE))
             if hit and self.alone in (None, hit.thread):
-                return self.stop_at(hit)
+                return self.stop_at(hit, hit.place - 1)
             if self.wire.is_interrupted():
                 return self.stop(2)
         return self.end() if history.place == history.length else self.stop(SIGTRAP, thread=thread)
@@ -242,12 +242,16 @@ class Server:
         goal = history.moments.before(self.moved, history.place) if rest == "s" else None
         hit = history.backward(goal or 0)
         if hit:
-            return self.stop_at(hit)
+            return self.stop_at(hit, hit.place + 1)
         return self.stop(SIGTRAP, "replaylog:begin;" if goal is None else "")
 
-    def stop_at(self, hit: Hit) -> str:
-        why = f"{self.watch_names[hit.watch]}:{hit.watch.stretch.start:x};" if hit.watch else "swbreak:;"
-        return self.stop(SIGTRAP, why, hit.thread)
+    def stop_at(self, hit: Hit, short_of_it: int) -> str:
+        """At a breakpoint, or a step short of where an access that is watched is done: GDB takes processors of this kind to stop
+        there, and takes that step itself."""
+        if not hit.watch:
+            return self.stop(SIGTRAP, "swbreak:;", hit.thread)
+        self.history.go(short_of_it)
+        return self.stop(SIGTRAP, f"{self.watch_names[hit.watch]}:{hit.watch.stretch.start:x};", hit.thread)
 
     def stop(self, signal: int, why: str = "", thread: int | None = None) -> str:
         """The run stands still, for this thread: without one for that whose step comes next. Where one thread alone is resumed,

@@ -238,12 +238,16 @@ version() {
 }
 
 build_of_program() {
-    # rt itself builds only what is proved, and keeps no record.
-    told='commit unknown, proved'
-    [ -z "$unproved" ] || told='commit unknown, not proved'
+    newer=$(newer_source)
     if [ -f "$program.built" ] && [ ! "$program" -nt "$program.built" ]; then
         told=$(cat "$program.built")
+    elif [ -n "$unproved" ]; then
+        told='commit unknown, not proved'
+    elif is_package || [ -n "$newer" ]; then
+        told='commit unknown, proved'
+    else
+        # rt itself builds only what is proved, and keeps no record; no source has changed since.
+        told="$(commit), proved"
     fi
-    newer=$(newer_source)
     echo "$told${newer:+; older than $newer}"
 }

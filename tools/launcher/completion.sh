@@ -3,11 +3,17 @@
 completion() {
     cat <<'PART'
 _romain() {
-    local word=${COMP_WORDS[COMP_CWORD]} command=1 options
+    local word=${COMP_WORDS[COMP_CWORD]} before=${COMP_WORDS[COMP_CWORD - 1]} command=1 options
+    # bash takes --mode=coop for three words.
+    if [[ $word == = ]]; then
+        word=
+    elif [[ $before == = ]]; then
+        before=${COMP_WORDS[COMP_CWORD - 2]}
+    fi
     while [[ ${COMP_WORDS[command]} == --* && $command -lt $COMP_CWORD ]]; do
         command=$((command + 1))
     done
-    case ${COMP_WORDS[COMP_CWORD - 1]} in
+    case $before in
 PART
     of_words values | while read -r option values; do
         echo "    $option) COMPREPLY=(\$(compgen -W '$values' -- \"\$word\")) && return ;;"

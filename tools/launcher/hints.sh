@@ -42,7 +42,9 @@ hint() {
     faults\ *) bad_line --faults ${answer#faults } "$@" ;;
     plan\ *) bad_line "$(plan_of "$1")" ${answer#plan } "$@" ;;
     limit\ *) [ "$1" != run ] || of_limit "$@" ;;
-    unended) echo "the plan was run to its end, and the program could go on: its run ended by a limit, or the journal is not whole$PAGE" ;;
+    unended) echo "the plan was run to its end, and the program could go on: its run ended by a limit, or the journal is not whole, or one of another program$PAGE" ;;
+    no-step\ *) echo "the journal is of another program or another input: EXE and --input have to be those of its run$PAGE" ;;
+    no-memory | sink\ *) echo "docs/TROUBLE.md says what to do" ;;
     trap\ * | deadlock | differ | no-majority) [ "$1" != run ] || audit_of "$@" ;;
     *) [ "$1" != run ] || ! grep -q '^votes .* copies [1-9].* struck 0 ' "$folder/ends" || races_of "$@" ;;
     esac
@@ -106,9 +108,9 @@ bad_line() {
             if (/\r$/) return "ends as on Windows, by CR LF and not by LF alone"
             if (/^[ \t]*$/) return "is empty"
             if (/^[ \t]*(#|\/\/)/) return "is a remark, and there are none"
-            if (/\t|  |^ | $/) return "has more than one space, or a tab, between two words or at an end"
             if (option != "--faults" && line == 1) return "is no beginning of a journal: the run needs --journal"
             if (!ends) return "has no line end, which the last line needs, too"
+            if (/\t|  |^ | $/) return "has more than one space, or a tab, between two words or at an end"
             return "has not the form of " (option == "--faults" ? "a fault: R T N reg X B, R T N pc B or R T N mem A B" : "an entry")
         }
         { print "line " line " of " file " " why() }' | sed "s|\$|$PAGE|"

@@ -53,10 +53,15 @@ arrange() {
     gzip -9n <"$lib/docs/romain.1" >"$share/man/man1/romain.1.gz"
     mv "$lib/docs/romain.bash" "$share/bash-completion/completions/romain"
     ln -s ../../lib/romain/docs "$share/doc/romain"
-    control "$(du -sk "$2/usr" | cut -f 1)" >"$2/DEBIAN/control"
+    control "$(du -sk "$2/usr" | cut -f 1)" "$(libc_needed "$lib/programs/romain" "$lib/programs/romain_audit")" >"$2/DEBIAN/control"
 }
 
-# control KILOBYTES
+# The newest symbols of the C library that the programs have name the version that they need.
+libc_needed() {
+    cat "$@" | grep -aoE 'GLIBC_[0-9]+[.][0-9.]+' | sed 's/GLIBC_//' | sort -uV | tail -n 1
+}
+
+# control KILOBYTES LIBC
 control() {
     cat <<END
 Package: romain
@@ -64,7 +69,7 @@ Version: $(version_number)
 Architecture: amd64
 Maintainer: Romain
 Installed-Size: $1
-Depends: libc6, libgcc-s1
+Depends: libc6 (>= $2), libgcc-s1
 Recommends: python3 (>= 3.11)
 Suggests: gdb-multiarch, gcc-riscv64-unknown-elf, python3-matplotlib
 Section: utils

@@ -117,6 +117,8 @@ impl<'a> Locks for Deciding<'a> {
 
     ghost known = { λ locks. rows_in locks.ranks };
 
+    ghost refused = { λ locks number rank thread. ⊤ };
+
     ghost Stays = { List ℕ };
 
     ghost stays = { λ locks. locks.ceilings.now };
@@ -147,6 +149,8 @@ impl Locks for ForNobody {
     ghost rows = { λ locks number rank. None };
 
     ghost known = { λ locks number rank. None };
+
+    ghost refused = { λ locks number rank thread. ⊤ };
 
     ghost stays = { λ locks. tt };
 

@@ -4,9 +4,9 @@ use Rattle.ro_replica.specs.Views.{is_unstopped}
 use Rattle.ro_replica.specs.Seen.{replica_of, SameProgram, CanCount}
 use Rattle.ro_peer.specs.Gets.{got_in}
 use Rattle.ro_peer.specs.Seen.{peer_of}
-use Rattle.ro_peer.specs.Leases.{PeerRuns, KeepsRows, Wins}
+use Rattle.ro_peer.specs.Leases.{PeerRuns, IsRefused, KeepsRows, Wins}
 use Rattle.ro_lockpage.specs.Pages.{PassOf}
-use Rattle.ro_locking.specs.Asking.{known_by, won_by, below}
+use Rattle.ro_locking.specs.Asking.{known_by, won_by, refused_by, below}
 use Rattle.ro_coop_lease.specs.declared.Lent.{Lent}
 use Rattle.ro_coop_lease.specs.declared.Back.{Back}
 
@@ -26,3 +26,4 @@ pub record Gives (lent : Lent) (old : PassOf) (back : Back) (new : PassOf) : Typ
   pub number : new.number ≡ old.number
   pub knows : KeepsRows (known_by old) (known_by new)
   pub wins : Wins (won_by old) (won_by new) lent.partner.peer.mutexes (got_in lent.partner.peer.replica.layout lent.partner.peer.replica.watchdog back.took.count (peer_of lent.partner.peer) lent.lease.thread)
+  pub refused : IsRefused (refused_by (record { pass = new; ceilings = lent.partner.ceilings.items })) lent.lease.thread back.partner.peer.mutexes back.took.came

@@ -1,7 +1,8 @@
 -- What asking adds to what a pass won.
-use Rattle.std.specs.Prelude.{◌≡◌, ◌⊎◌, ℕ, Bool, cond, List, [], ◌∷◌, ◌++◌, Option, Some, None}
-use Rattle.std.proofs.Common.{refl, sym, ap, ◌∙◌, inl, inr, ⊎_elim, eq-eqb}
-use Rattle.ro_lockpage.specs.Ranks.{Decided, decided, is_at, map_of, given, won_then}
+use Rattle.std.specs.Prelude.{◌≡◌, ◌⊎◌, ℕ, Bool, cond, List, [], ◌∷◌, ◌++◌, Contains, Option, Some, None}
+use Rattle.std.proofs.lemmas.List.Elements.{Contains-append_right, Contains-push}
+use Rattle.std.proofs.Common.{refl, sym, ap, ◌∙◌, inl, inr, ⊎_elim, eq-eqb, subst}
+use Rattle.ro_lockpage.specs.Ranks.{Asked, Decided, asked, decided, is_at, map_of, given, steps, won_then}
 use Rattle.ro_lockpage.specs.declared.words.Answer.{Answer}
 use Rattle.ro_lockpage.proofs.Notes.{at_both, decide, noted_at, noted_else, none-some, some-same}
 use Rattle.ro_peer.specs.declared.locks.Decision.TheVariants.{Asker, Other}
@@ -32,3 +33,13 @@ wins_asked won m r t None other at owner is =
     (λ (e : map_of won other at ≡ Some owner). inl e)
     (λ (e : map_of (decided m r t ∷ []) other at ≡ Some owner). let one = map_one m r t other at owner e in inr (ap (λ (b : Bool). cond b Asker Other) (eq-eqb t t refl), one.0, one.1, one.2))
     (map_either won (decided m r t ∷ []) other at owner is)
+
+-- ---- what a pass has asked
+
+steps_end : (m r : ℕ) (older : List ℕ) (found : ℕ) → Contains (steps m r (older ++ found ∷ [])) (asked m r found)
+steps_end m r [] found = Contains-push [] (asked m r found)
+steps_end m r (word ∷ older) found = Contains-append_right (asked m r word ∷ []) (steps m r (older ++ found ∷ [])) (asked m r found) (steps_end m r older found)
+
+-- the last step of an ask is among them
+pub asks_last : (before now : List Asked) (m r : ℕ) (older : List ℕ) (found : ℕ) → now ≡ before ++ steps m r (older ++ found ∷ []) → Contains now (asked m r found)
+asks_last before now m r older found is = subst (λ (all : List Asked). Contains all (asked m r found)) (sym is) (Contains-append_right before (steps m r (older ++ found ∷ [])) (asked m r found) (steps_end m r older found))

@@ -1,7 +1,7 @@
 -- A pass of a lock page as the locks of a peer.
-use Rattle.std.specs.Prelude.{◌≡◌, ℕ, ◌==◌, if◌then◌else◌, min, ◌^◌, nat_lt, List, Some, None, slice_index}
+use Rattle.std.specs.Prelude.{◌≡◌, ◌⊎◌, ℕ, ◌==◌, ◌≤◌, if◌then◌else◌, min, ◌^◌, nat_lt, List, Contains, Some, None, slice_index}
 use Rattle.atomic_table.specs.Seated.{TableId}
-use Rattle.ro_lockpage.specs.Ranks.{map_of}
+use Rattle.ro_lockpage.specs.Ranks.{asked, given, map_of, row_in}
 use Rattle.ro_lockpage.specs.Pages.{PassOf}
 use Rattle.ro_lockpage.specs.declared.words.Answer.{Answer}
 use Rattle.ro_lockpage.specs.declared.words.Answer.TheVariants.{For, Passed}
@@ -41,3 +41,8 @@ seat_of asking = (asking.pass.page, asking.pass.number, asking.ceilings)
 abbrev pub decision_of : Answer → (thread : ℕ) → Decision
 decision_of (For other) thread = if other == thread then Asker else Other
 decision_of Passed thread = Other
+
+-- A rank of a mutex may not be got, or a step of the pass found in the rank's row that it was another's or has passed.
+abbrev pub refused_by : Asking → (number rank thread : ℕ) → Type 0
+refused_by asking number rank thread =
+    (ceiling_of asking.ceilings number ≤ rank) ⊎ ((found : ℕ) × Contains asking.pass.asked (asked number rank found) × (decision_of (given (row_in rank found) thread) thread ≡ Other))

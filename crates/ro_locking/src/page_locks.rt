@@ -2,7 +2,7 @@
 ghost use Rattle.std.specs.Prelude.{◌≡◌, ◌⊎◌, ◌++◌, ◌<◌, ◌≤◌, ◌↔◌, ℕ, List, [], ◌∷◌, Some, IsTrue};
 ghost use Rattle.ro_lockpage.specs.Ranks.{row_in, given, steps, AreOlder};
 ghost use Rattle.ro_peer.specs.Leases.{KeepsRows};
-ghost use Rattle.ro_locking.specs.Asking.{ceiling_of, decision_of, known_by, rows_of, won_by, seat_of};
+ghost use Rattle.ro_locking.specs.Asking.{ceiling_of, decision_of, known_by, rows_of, won_by, refused_by, seat_of};
 
 use ro_lockpage::{Answer, LockPage, Pass};
 use ro_peer::{Decision, Locks};
@@ -63,13 +63,15 @@ impl<'a> PageLocks<'a> {
 impl<'a> Locks for PageLocks<'a> {
     ghost use Rattle.std.specs.Prelude.{ℕ, List};
     ghost use Rattle.atomic_table.specs.Seated.{TableId};
-    ghost use Rattle.ro_locking.specs.Asking.{known_by, rows_of, won_by, seat_of};
+    ghost use Rattle.ro_locking.specs.Asking.{known_by, rows_of, won_by, refused_by, seat_of};
 
     ghost won = { λ locks. won_by locks.pass };
 
     ghost rows = { rows_of };
 
     ghost known = { λ locks. known_by locks.pass };
+
+    ghost refused = { refused_by };
 
     ghost Stays = { TableId × ℕ × List ℕ };
 
@@ -81,6 +83,7 @@ impl<'a> Locks for PageLocks<'a> {
         ensures keeps { KeepsRows (rows_of self.old) (rows_of self.new) }
         ensures knows { KeepsRows (known_by self.old.pass) (known_by self.new.pass) }
         ensures asker { result ≡ Decision.Asker → rows_of self.new number rank ≡ Some thread }
+        ensures other { result ≡ Decision.Other → refused_by self.new number rank thread }
         ensures stays { seat_of self.new ≡ seat_of self.old }
         ensures wins { (other at owner : ℕ) → won_by self.new.pass other at owner → won_by self.old.pass other at owner ⊎ ((result ≡ Decision.Asker) × (other ≡ number) × (at ≡ rank) × (owner ≡ thread)) }
         // Below the ceiling the page is asked, and else nobody.

@@ -1,5 +1,5 @@
 -- How a run of a peer's thread comes back.
-use Rattle.std.specs.Prelude.{◌≡◌, ◌≢◌, ◌⊎◌, ℕ, List, [], ◌∷◌, ◌+◌, ◌<◌, ◌≤◌, ◌^◌, true, false, IsTrue, Option, Some, None}
+use Rattle.std.specs.Prelude.{◌≡◌, ◌≢◌, ◌⊎◌, ℕ, List, [], ◌∷◌, ◌+◌, ◌<◌, ◌≤◌, ◌^◌, true, false, IsTrue, Option, Some, None, slice_get}
 use Rattle.ro_event.specs.declared.calls.Call.{Call}
 use Rattle.ro_event.specs.declared.calls.Which.TheVariants.{Function}
 use Rattle.ro_event.specs.declared.functions.Function.TheVariants.{Lock}
@@ -33,6 +33,11 @@ LockWaits layout watchdog thread peer (Row number) =
 LockWaits layout watchdog thread peer (Full number) =
     (mutex : Mutex) × IsAtLock layout watchdog thread peer number mutex × (mutex.owner ≡ None) × (mutex.rank + 1 ≡ 2 ^ 32)
 LockWaits layout watchdog thread peer came = ⊥
+
+-- a thread that waits at a free mutex was refused the rank that the mutex has next
+abbrev pub IsRefused : (refused : ℕ → ℕ → ℕ → Type 0) → (thread : ℕ) → List Mutex → Came → Type 0
+IsRefused refused thread mutexes (Row number) = (mutex : Mutex) × (slice_get mutexes number ≡ Some mutex) × refused number mutex.rank thread
+IsRefused refused thread mutexes came = Unit {0}
 
 -- the number of the mutex at whose lock a thread waits that came back so
 abbrev pub waiting_at : Came → Option ℕ

@@ -24,6 +24,9 @@ pub trait Locks {
     // The same of all ranks.
     ghost known: { Self → Rows };
 
+    // A rank of a mutex, by the mutex's number, is not a thread's.
+    ghost refused: { Self → ℕ → ℕ → ℕ → Type 0 };
+
     // What asking leaves as it was.
     ghost Stays: { Type 0 } = { Unit {0} };
 
@@ -36,6 +39,7 @@ pub trait Locks {
         ensures keeps { (other at owner : ℕ) → rows self.old other at ≡ Some owner → rows self.new other at ≡ Some owner }
         ensures knows { (other at owner : ℕ) → known self.old other at ≡ Some owner → known self.new other at ≡ Some owner }
         ensures asker { result ≡ Decision.Asker → rows self.new number rank ≡ Some thread }
+        ensures other { result ≡ Decision.Other → refused self.new number rank thread }
         ensures stays { stays self.new ≡ stays self.old }
         ensures wins { (other at owner : ℕ) → won self.new other at owner → won self.old other at owner ⊎ ((result ≡ Decision.Asker) × (other ≡ number) × (at ≡ rank) × (owner ≡ thread)) };
 }

@@ -1,5 +1,5 @@
 //! Running a thread of a peer.
-ghost use Rattle.std.specs.Prelude.{◌≡◌, ◌⊎◌, ◌+◌, ◌<◌, ℕ, [], true, false, IsTrue, Some, None, MatchOption, slice_get};
+ghost use Rattle.std.specs.Prelude.{◌≡◌, ◌⊎◌, ◌+◌, ◌<◌, ℕ, [], true, false, IsTrue, Some, None, IfSome, MatchOption, slice_get};
 ghost use Rattle.ro_event.specs.declared.stops.Stop.TheVariants.{Calls};
 ghost use Rattle.ro_replica.specs.Runs.{standing_at};
 ghost use Rattle.ro_replica.specs.Seen.{replica_of, SameProgram, CanCount};
@@ -8,7 +8,7 @@ ghost use Rattle.ro_orders.specs.Turns.{is_lock_or_unlock};
 ghost use Rattle.ro_peer.specs.Peers.{is_got};
 ghost use Rattle.ro_peer.specs.Gets.{get_of, got_in, is_own_call};
 ghost use Rattle.ro_peer.specs.Seen.{peer_of, number_of};
-ghost use Rattle.ro_peer.specs.Leases.{waiting_at, PeerRuns, GoesOn, Meets, Permits, KeepsRows, Wins, met_gets};
+ghost use Rattle.ro_peer.specs.Leases.{waiting_at, PeerRuns, IsRefused, GoesOn, Meets, Permits, KeepsRows, Wins, met_gets};
 
 use crate::answers::{Answer, answer_to};
 use crate::locks::{Decision, Locks};
@@ -80,6 +80,7 @@ impl Peer {
         ensures knows { KeepsRows (L.known locks.old) (L.known locks.new) }
         ensures stays { L.stays locks.new ≡ L.stays locks.old }
         ensures wins { Wins (L.won locks.old) (L.won locks.new) self.old.mutexes (got_in self.old.replica.layout self.old.replica.watchdog result.count (peer_of self.old) thread) }
+        ensures refused { IsRefused (L.refused locks.new) thread self.new.mutexes result.came }
     {
         let mut count = 0;
         'parts: loop {
@@ -103,6 +104,7 @@ impl Peer {
         ensures knows { KeepsRows (L.known locks.old) (L.known locks.new) }
         ensures stays { L.stays locks.new ≡ L.stays locks.old }
         ensures wins { Wins (L.won locks.old) (L.won locks.new) self.old.mutexes (got_in self.old.replica.layout self.old.replica.watchdog result.count (peer_of self.old) thread) }
+        ensures refused { IfSome result.came (λ came. IsRefused (L.refused locks.new) thread self.new.mutexes came) }
     {
         let ran = self.replica.run(thread, most);
         let Some(stop) = ran.stop else {
@@ -161,6 +163,7 @@ impl Peer {
         ensures knows { KeepsRows (L.known locks.old) (L.known locks.new) }
         ensures stays { L.stays locks.new ≡ L.stays locks.old }
         ensures wins { Wins (L.won locks.old) (L.won locks.new) self.old.mutexes (met_gets result (get_of self.old.replica.layout (peer_of self.old) thread)) }
+        ensures refused { IfSome result (λ came. IsRefused (L.refused locks.new) thread self.new.mutexes came) }
     {
         let mutex = self.mutexes.mutex(own.number);
         let Answer::Answers { change, value } = answer_to(own.call.which, thread, mutex.owner)
@@ -196,6 +199,7 @@ fn permit<L: Locks>(
     requires number { number < 256 }
     requires thread { thread < 16 }
     ensures permits { Permits (L.rows locks.new) change number rank thread result }
+    ensures refused { (at : ℕ) → result ≡ Some (Came.Row at) → L.refused locks.new number rank thread }
     ensures keeps { KeepsRows (L.rows locks.old) (L.rows locks.new) }
     ensures knows { KeepsRows (L.known locks.old) (L.known locks.new) }
     ensures stays { L.stays locks.new ≡ L.stays locks.old }

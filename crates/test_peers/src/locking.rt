@@ -44,13 +44,15 @@ struct All {
 }
 
 impl Locks for All {
-    ghost use Rattle.std.specs.Prelude.{Some};
+    ghost use Rattle.std.specs.Prelude.{◌≢◌, Some};
 
     ghost won = { λ all number rank thread. ⊥ };
 
     ghost rows = { λ all number rank. Some all.thread };
 
     ghost known = { λ all number rank. Some all.thread };
+
+    ghost refused = { λ all number rank thread. thread ≢ all.thread };
 
     ghost stays = { λ all. tt };
 

@@ -1,9 +1,9 @@
 use Rattle.std.specs.Prelude.{◌≡◌, ℕ, List}
 use Rattle.std.proofs.Common.{refl, ap, ◌∙◌, subst}
 use Rattle.ro_peer.specs.Gets.{got_in}
-use Rattle.ro_peer.specs.Leases.{PeerRuns, KeepsRows, Wins}
+use Rattle.ro_peer.specs.Leases.{PeerRuns, IsRefused, KeepsRows, Wins}
 use Rattle.ro_peer.specs.Seen.{peer_of}
-use Rattle.ro_locking.specs.Asking.{Asking, rows_of, known_by, won_by}
+use Rattle.ro_locking.specs.Asking.{Asking, rows_of, known_by, won_by, refused_by}
 use Rattle.ro_coop_lease.proofs.Running.{asked-is, same-page, same-number}
 use Rattle.ro_coop_lease.proofs.Lent.run.Goals as goal
 
@@ -27,4 +27,5 @@ returns c =
       knows = subst (λ (a : Asking). KeepsRows (known_by c.args.pass) (known_by a.pass)) after_is (subst (λ (b : Asking). KeepsRows (known_by b.pass) (known_by after.pass)) before_is c.run-count.ensures.knows);
       wins = subst (λ (a : Asking). Wins (won_by c.args.pass) (won_by a.pass) lent.partner.peer.mutexes (got_in replica.layout replica.watchdog ran.count (peer_of lent.partner.peer) lent.lease.thread)) after_is
           (subst (λ (b : Asking). Wins (won_by b.pass) (won_by after.pass) lent.partner.peer.mutexes (got_in replica.layout replica.watchdog ran.count (peer_of lent.partner.peer) lent.lease.thread)) before_is c.run-count.ensures.wins);
+      refused = subst (λ (a : Asking). IsRefused (refused_by a) lent.lease.thread c.run-count.new.self.mutexes ran.came) after_is c.run-count.ensures.refused;
     }

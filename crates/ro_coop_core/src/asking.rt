@@ -133,7 +133,7 @@ impl Core {
 
     /// Where a thread of a peer came back, where it last came back at a lock.
     pub fn parking(&self, number: u32, thread: u32) -> Option<Parking>
-        ensures { Holds (fields_of self.now) → IfSome result (λ parking. parked_in (state_of self.now) number thread ≡ Some parking) }
+        ensures { Holds (fields_of self.now) → result ≡ parked_in (state_of self.now) number thread }
     {
         self.seats.get(number as usize)?.parking(thread)
     }

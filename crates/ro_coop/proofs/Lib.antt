@@ -28,6 +28,7 @@ pub mod Taken
 pub mod Deadlocks
 pub mod Steps
 pub mod Followed
+pub mod Limits
 pub mod Whole
 pub mod Checks
 pub mod Worked

@@ -39,7 +39,7 @@ use Rattle.ro_peer.specs.Peers.{Peer}
 use Rattle.ro_peer.specs.Gets.{InRows}
 use Rattle.ro_settings.specs.declared.Settings.{Settings}
 use Rattle.ro_settings.specs.Ranges.{InRange}
-use Rattle.ro_legal.specs.Core.{Job as Asked, Core as Run, is_going, nothing_lent, is_home, offers, may_vote, opening_replicas, opening_core as opening_voted}
+use Rattle.ro_legal.specs.Core.{Job as Asked, Core as Run, is_going, nothing_lent, is_home, offers, may_vote, may_free, opening_replicas, opening_core as opening_voted}
 use Rattle.ro_legal.specs.Event.{Event}
 use Rattle.ro_legal.specs.Sides.{Side, opening_side, peer_with, peers_of}
 use Rattle.ro_legal.specs.Cooperative as rules
@@ -186,27 +186,32 @@ module _ (job : Asked) (core : Run) (as_many : length core.sides ≡ length core
       there None e f = absurd (false≢true f)
       there (Some replica) e f = let p = peer-of job core as_many lease.thread lease.replica replica e in ap (λ (o : Option Peer). option_map_or (λ (peer : Peer). is_unstopped lease.thread peer.replica) o false) p.2 ∙ f
 
-  vote-may : (thread count won : ℕ) (lost : Lost) (did : Did) → rules.MayVote job core thread count won lost did → MayVote (as-job job) (seen core) thread did
-  vote-may thread count won lost did m =
-      let p = vote-parts core thread m.may in
+  -- a vote on which all agree, whether the limit leaves room for it or not
+  pub vote-open : (thread : ℕ) → may_vote core thread ≡ true → (view : View) → rules.AgreeOn job core thread view → (event : Event) → rules.voted_event job core thread ≡ Some event → (did : Did) → event.did ≡ did → MayVote (as-job job) (seen core) thread did
+  vote-open thread may view agreed event comes did did_is =
+      let p = vote-parts core thread may in
       record {
         going = p.going;
         nothing_lent = p.alone;
         lives = p.live;
         not_blocked = p.unblocked;
-        view = m.view;
+        view = view;
         agreed = λ n peer e.
             let q = peer-parts core n peer (sym (peers-get core.replicas core.sides n) ∙ e) in
-            let stopped = get-all (λ (r : Replica). is_some (stop_of r thread)) core.replicas (and_parts _ _ m.may).1 n q.replica q.here in
-            ap (λ (x : Peer). view_of (ranges_here (as-job job) (seen core)) thread x.replica) (sym q.is) ∙ shown-one _ thread m.view core.replicas m.agreed.0 n q.replica q.here stopped;
-        event = m.event;
-        comes = event-same job core as_many thread ∙ m.comes;
-        did_is = m.did_is;
+            let stopped = get-all (λ (r : Replica). is_some (stop_of r thread)) core.replicas (and_parts _ _ may).1 n q.replica q.here in
+            ap (λ (x : Peer). view_of (ranges_here (as-job job) (seen core)) thread x.replica) (sym q.is) ∙ shown-one _ thread view core.replicas agreed.0 n q.replica q.here stopped;
+        event = event;
+        comes = event-same job core as_many thread ∙ comes;
+        did_is = did_is;
       }
 
-  free-may : (thread : ℕ) → rules.MayFree job core thread → MayFree (as-job job) (seen core) thread
-  free-may thread m =
-      let p = free-parts job core thread m.may in
+  vote-may : (thread count won : ℕ) (lost : Lost) (did : Did) → rules.MayVote job core thread count won lost did → MayVote (as-job job) (seen core) thread did
+  vote-may thread count won lost did m = vote-open thread m.may m.view m.agreed m.event m.comes did m.did_is
+
+  -- the same of a free
+  pub free-open : (thread : ℕ) → may_free job core thread ≡ true → MayFree (as-job job) (seen core) thread
+  free-open thread may =
+      let p = free-parts job core thread may in
       record {
         going = p.going;
         nothing_lent = p.alone;
@@ -222,6 +227,9 @@ module _ (job : Asked) (core : Run) (as_many : length core.sides ≡ length core
       in-either : (o : Option Side) (call : Call) → blocks (setup_of job.program) core.kernel thread call ≡ false → blocks (setup_of job.program) (option_map_or (λ (side : Side). cond (side.answered thread) (released core.kernel thread) core.kernel) o core.kernel) thread call ≡ false
       in-either None call e = e
       in-either (Some side) call e = bit (side.answered thread) call e
+
+  free-may : (thread : ℕ) → rules.MayFree job core thread → MayFree (as-job job) (seen core) thread
+  free-may thread m = free-open thread m.may
 
   end-may : (how : How) → rules.MayEnd job core how → (core.due ≡ Some how) ⊎ ((core.due ≡ None) × (is_outcome how ≡ false))
   end-may how (rules.due e) = inl e
@@ -451,7 +459,7 @@ pub count-kept : (job : Asked) (core : Run) → length core.sides ≡ length cor
 count-kept job core e [] = refl
 count-kept job core e (entry ∷ journal) = count-kept job (rules.after job core entry) (as-many-after job core entry e) journal ∙ count-after job core entry e
 
-many-kept : (job : Asked) (core : Run) → length core.sides ≡ length core.replicas → (journal : List Entry) → length (rules.replay_from job core journal).sides ≡ length (rules.replay_from job core journal).replicas
+pub many-kept : (job : Asked) (core : Run) → length core.sides ≡ length core.replicas → (journal : List Entry) → length (rules.replay_from job core journal).sides ≡ length (rules.replay_from job core journal).replicas
 many-kept job core e [] = e
 many-kept job core e (entry ∷ journal) = many-kept job (rules.after job core entry) (as-many-after job core entry e) journal
 

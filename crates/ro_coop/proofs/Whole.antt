@@ -1,13 +1,13 @@
 -- What a whole run comes to: how its journal ends, the machine of its first steps has ended; and where it ends by a deadlock, no thread has a step.
-use Rattle.std.specs.Prelude.{◌≡◌, ℕ, true, List, [], ◌∷◌, ◌++◌, Some, None}
-use Rattle.std.proofs.Common.{refl, sym, ap, ◌∙◌, subst}
+use Rattle.std.specs.Prelude.{◌≡◌, ℕ, true, List, [], ◌∷◌, ◌++◌, length, Some, None}
+use Rattle.std.proofs.Common.{refl, sym, ap, ◌∙◌, subst, arith, length-append}
 use Rattle.ro_journal.specs.declared.How.{How}
-use Rattle.ro_journal.specs.declared.How.TheVariants.{Deadlock, Differ}
+use Rattle.ro_journal.specs.declared.How.TheVariants.{Exit, Trap, Deadlock, Limit, Differ, NoMajority, Sink}
 use Rattle.ro_journal.specs.declared.Entry.{Entry}
 use Rattle.ro_journal.specs.declared.Entry.TheVariants.{End}
 use Rattle.ro_journal.specs.Plan.{outcome_of}
 use Rattle.ro_settings.specs.Ranges.{InRange}
-use Rattle.ro_plain.specs.Machine.{Machine, opening, step, run}
+use Rattle.ro_plain.specs.Machine.{Machine, opening, step, run, IsExecution, AllEnd}
 use Rattle.ro_plain.specs.Order.{RaceFree}
 use Rattle.ro_plain.proofs.Calls.{some-injective}
 use Rattle.ro_orders.specs.Copies.{Rows}
@@ -22,11 +22,13 @@ use Rattle.ro_legal.proofs.Together.{keeps-replicas}
 use Rattle.ro_legal.proofs.TogetherJournals.{LegalFrom-parts}
 use Rattle.ro_legal.proofs.TogetherOutcomes.{ended-outcome}
 use Rattle.ro_coop.specs.Core.{first_of}
-use Rattle.ro_coop.specs.Runs.{IsExecutionOf, RunsAsFirst}
+use Rattle.ro_simulation.specs.Theorem.{EndsComplete, by_exit, by_trap, by_deadlock}
+use Rattle.ro_coop.specs.Runs.{IsExecutionOf, PassedLimit, RunsAsFirst}
 use Rattle.ro_coop.proofs.Rowless.{in-front, in-both}
 use Rattle.ro_coop.proofs.Rules.{over-none, is-execution, views-agree}
 use Rattle.ro_coop.proofs.Steps.{first-end}
 use Rattle.ro_coop.proofs.Deadlocks.{real-deadlock}
+use Rattle.ro_coop.proofs.Limits.{passed}
 
 -- ---- a journal that ends is one that goes on, and its end
 
@@ -91,6 +93,16 @@ not-differs job core k (rules.alone h) agree = h
 not-differs job core k (rules.for_vote thread m h) agree = let a = agree thread m in h a.0 a.1
 not-differs job core k (rules.for_free thread m h) agree = h
 
+-- a cooperative run has no majorities
+never-splits : (job : Asked) (core : Run) → KeepsReplicas job core → rules.MayEnd job core NoMajority → ⊥
+never-splits job core k (rules.due e) = never (k.due_over NoMajority e)
+  where
+    never : IsOver NoMajority → ⊥
+    never h = elim h [ ]
+never-splits job core k (rules.alone h) = h
+never-splits job core k (rules.for_vote thread m h) = h
+never-splits job core k (rules.for_free thread m h) = h
+
 -- ---- a whole run
 
 module _ (job : Asked) (rows : Rows) (free : RaceFree job.program) (range : InRange job.settings) (unstruck : job.faults ≡ []) (journal : List Entry) (legal : rules.Legal job journal) (in_rows : InRows rows (rules.gets_from job (rules.opening_core job) journal)) where
@@ -110,13 +122,45 @@ module _ (job : Asked) (rows : Rows) (free : RaceFree job.program) (range : InRa
       let first : first_of journal ≡ first_of f.before = ap first_of f.is ∙ first-end f.before Deadlock in
       real-deadlock job rows free range unstruck f.before f.legal f.in_rows stuck execution.machine (ap (run job.program (opening job.program)) (sym first) ∙ execution.reached)
 
+  differs : outcome_of journal ≡ Some Differ → ⊥
+  differs e =
+      let f = ends Differ e in
+      not-differs job (rules.replay job f.before) (keeps-replicas job f.before unstruck f.legal) f.may
+      (λ thread may. views-agree job rows free range unstruck f.before f.legal f.in_rows thread may)
+
+  limited : (steps next : ℕ) → outcome_of journal ≡ Some (Limit steps next) → PassedLimit job journal steps next
+  limited steps next e =
+      let f = ends (Limit steps next) e in
+      let first : first_of journal ≡ first_of f.before = ap first_of f.is ∙ first-end f.before (Limit steps next) in
+      let longer = passed job rows free range unstruck f.before f.legal f.in_rows steps next f.may in
+      record {
+        threads = longer.threads;
+        runs = subst (λ (steps : List ℕ). IsExecution job.program (steps ++ longer.threads)) (sym first) longer.runs;
+        steps_are = longer.steps_are ∙ ap (λ (steps : List ℕ). length steps) (sym first);
+        next_is = longer.next_is;
+        above = longer.above;
+      }
+
+  -- which ends are left
+  completes : AllEnd job.program job.settings.limit → EndsComplete journal
+  completes short (Exit status) e sinks = by_exit
+  completes short (Trap cause) e sinks = by_trap
+  completes short Deadlock e sinks = by_deadlock
+  completes short (Limit steps next) e sinks =
+      let p = limited steps next e in
+      let most = short (first_of journal ++ p.threads) p.runs in
+      let long = length-append (first_of journal) p.threads in
+      let a = p.steps_are in let b = p.next_is in let c = p.above in absurd (omega arith)
+  completes short Differ e sinks = absurd (differs e)
+  completes short NoMajority e sinks = let f = ends NoMajority e in absurd (never-splits job (rules.replay job f.before) (keeps-replicas job f.before unstruck f.legal) f.may)
+  completes short (Sink bytes) e sinks = absurd (sinks bytes refl)
+
   pub runs-as-first : RunsAsFirst job rows journal
   runs-as-first = record {
     execution = execution;
     ends = λ how outcome e. execution.ends how outcome (ended-so how e);
     deadlock = stuck-there;
-    no_difference = λ e.
-        let f = ends Differ e in
-        not-differs job (rules.replay job f.before) (keeps-replicas job f.before unstruck f.legal) f.may
-        (λ thread may. views-agree job rows free range unstruck f.before f.legal f.in_rows thread may);
+    no_difference = differs;
+    limit = limited;
+    complete = completes;
   }

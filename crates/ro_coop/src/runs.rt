@@ -34,7 +34,8 @@ pub fn deadlocks_are_real()
 {}
 
 /// A whole run is the execution of its journal's first steps: an exit or a trap by which the journal ends is how that ended, a
-/// deadlock is one of it, and no journal ends by a difference.
+/// deadlock is one of it, and no journal ends by a difference. Where it ends by the limit, an execution is longer than that; so
+/// a program of which none is comes to its own end, unless the sink fails.
 pub fn cooperative_runs()
     ensures { (job : Job) (rows : Rows) → RaceFree job.program → InRange job.settings → job.faults ≡ [] → (journal : List Entry) → Legal job journal → InRows rows (gets_from job (opening_core job) journal) → RunsAsFirst job rows journal }
 {}

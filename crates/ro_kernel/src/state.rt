@@ -7,6 +7,7 @@ ghost use Rattle.ro_kernel.specs.Serve.{fits};
 ghost use Rattle.ro_mutex.specs.Owners.{owner_of};
 
 use crate::Life;
+use crate::inputs::Input;
 use crate::reservations::Reservation;
 use ro_condition::{Waiter, Waiters};
 use ro_limits::{MAPPED_START, MOST_THREADS};
@@ -29,7 +30,7 @@ pub struct Kernel {
     pub(crate) heap: u32,
     /// Where it ends, the program break.
     pub(crate) heap_end: u32,
-    pub(crate) input: Vec<u8>,
+    pub(crate) input: Input,
     /// How many bytes of the input were read.
     pub(crate) taken: usize,
     /// One for each thread that was made.
@@ -43,14 +44,15 @@ pub struct Kernel {
 
 impl Model for Kernel {
     ghost use Rattle.std.specs.Prelude.{◌≡◌, ◌≤◌, vec_len};
+    ghost use Rattle.ro_kernel.specs.Inputs.{IsThrice};
     ghost use Rattle.ro_kernel.specs.Mapped.{mapped_to, IsMapped};
     ghost use Rattle.ro_kernel.specs.State.{State};
 
     ghost Value = { State };
 
-    ghost view = { λ k. record { setup = record { ranges = k.regions.first; heap = k.heap; input = k.input.items }; kernel = record { lives = k.lives.items; owners = k.mutexes; waiters = k.waiters; heap_end = k.heap_end; taken = k.taken; given = k.regions.given; reserved = k.reserved } } };
+    ghost view = { λ k. record { setup = record { ranges = k.regions.first; heap = k.heap; input = k.input.first.items }; kernel = record { lives = k.lives.items; owners = k.mutexes; waiters = k.waiters; heap_end = k.heap_end; taken = k.taken; given = k.regions.given; reserved = k.reserved } } };
 
-    ghost invariant = { λ k. (k.taken ≤ vec_len k.input) × (vec_len k.lives ≤ 16) × (k.map_end ≡ mapped_to k.regions.given) × IsMapped k.regions.given };
+    ghost invariant = { λ k. (k.taken ≤ vec_len k.input.first) × IsThrice k.input k.input.first.items × (vec_len k.lives ≤ 16) × (k.map_end ≡ mapped_to k.regions.given) × IsMapped k.regions.given };
 }
 
 impl Life {
@@ -78,7 +80,7 @@ impl Kernel {
             map_end: MAPPED_START,
             heap,
             heap_end: heap,
-            input: input.to_vec(alloc)?,
+            input: Input::of(alloc, input)?,
             taken: 0,
             lives: [Life::Live].to_vec(alloc)?,
             mutexes: MutexTable::new(alloc)?,

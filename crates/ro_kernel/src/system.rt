@@ -1,5 +1,5 @@
 //! The system calls.
-ghost use Rattle.std.specs.Prelude.{◌≡◌, ◌+◌, ◌≤◌, ◌==◌, ◌||◌, take, drop, length, IfOk, OnErr};
+ghost use Rattle.std.specs.Prelude.{◌≡◌, ◌+◌, ◌≤◌, ◌==◌, ◌||◌, take, drop, length, IfOk, IfSome, IsSome, OnErr};
 ghost use Rattle.ro_kernel.specs.Serve.{capped, serve_read, serve_write, serve_brk, serve_mmap, serve_system};
 ghost use Rattle.ro_kernel.specs.Served.{Brings, IsServe};
 
@@ -103,19 +103,25 @@ impl Kernel {
         if !self.regions.permits(call.a1, len, Kind::Write) {
             return Ok(answer(self.alloc, thread, call, negative(EFAULT)));
         }
-        let bytes = self.next_input(len)?;
+        let Some(bytes) = self.next_input(len)? else {
+            return Ok(Served::Ends(How::NoMajority));
+        };
         self.taken += bytes.len();
         Ok(stores(thread, call, bytes.len() as u32, call.a1, bytes))
     }
 
-    /// The next bytes of the input, at most so many.
-    fn next_input(&self, most: u32) -> Result<Vec<u8>, AllocError>
-        ensures bytes { IfOk result (λ bytes. bytes.items ≡ take most (drop self.now.kernel.taken self.now.setup.input)) }
-        ensures most { IfOk result (λ bytes. length bytes.items ≤ most) }
-        ensures within { IfOk result (λ bytes. self.now.kernel.taken + length bytes.items ≤ length self.now.setup.input) }
+    /// The next bytes of the input, at most so many. They are `None` only where memory has changed by itself, so that no two of the
+    /// copies that are kept say the same.
+    fn next_input(&self, most: u32) -> Result<Option<Vec<u8>>, AllocError>
+        ensures there { IfOk result IsSome }
+        ensures bytes { IfOk result (λ found. IfSome found (λ bytes. bytes.items ≡ take most (drop self.now.kernel.taken self.now.setup.input))) }
+        ensures most { IfOk result (λ found. IfSome found (λ bytes. length bytes.items ≤ most)) }
+        ensures within { IfOk result (λ found. IfSome found (λ bytes. self.now.kernel.taken + length bytes.items ≤ length self.now.setup.input)) }
     {
-        let rest = &self.input[self.taken..];
-        rest[..rest.len().min(most as usize)].to_vec(self.alloc)
+        let Some(bytes) = self.input.part(self.taken, most as usize) else {
+            return Ok(None);
+        };
+        Ok(Some(bytes.to_vec(self.alloc)?))
     }
 
     /// write(fd, buf, len): the answer alone, since the bytes are the caller's to read.

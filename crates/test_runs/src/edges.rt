@@ -761,11 +761,14 @@ impl Gate for Meeting {
 }
 
 // While one of two drivers stands at the gate with its lease, the other takes the replicas that are left: before the first vote,
-// and behind each, where drivers that went to rest or left would let it wait in vain. Each replica is lent once between votes.
+// and behind each, where drivers that went to rest or left would let it wait in vain. Each replica is lent once between votes, in
+// either mode.
 #[test]
 fn two_drivers_at_once(rt: HostRuntime) -> Result<(), Fail> {
-    for (guest, status, votes) in [("seven", 7, 0), ("hello", 0, 0), ("hello", 0, 1)] {
-        assert_meeting(&rt, rt.alloc(), guest, status, votes)?;
+    for mode in ["vote", "coop"] {
+        for (guest, status, votes) in [("seven", 7, 0), ("hello", 0, 0), ("hello", 0, 1)] {
+            assert_meeting(&rt, rt.alloc(), mode, guest, status, votes)?;
+        }
     }
     Ok(())
 }
@@ -773,6 +776,7 @@ fn two_drivers_at_once(rt: HostRuntime) -> Result<(), Fail> {
 fn assert_meeting<R: Threads + Wait + Abort + Sync>(
     rt: &R,
     alloc: Global,
+    mode: &str,
     guest: &str,
     status: u8,
     votes: u64,
@@ -785,13 +789,13 @@ fn assert_meeting<R: Threads + Wait + Abort + Sync>(
         others: AtomicU64::new(0),
         met: AtomicU64::new(0),
     };
-    let words = ["run", guest, "--drivers", "2"];
+    let words = ["run", guest, "--mode", mode, "--drivers", "2"];
     let done = do_command(rt, alloc, &words, &mut store, &[], &gate)?.done;
-    assert_eq!(rt; done.answer, Answer::Exit(status), "of {guest}");
+    assert_eq!(rt; done.answer, Answer::Exit(status), "of {guest} by {mode}");
     assert_eq!(rt;
         gate.met.load(Ordering::SeqCst),
         1,
-        "of {guest} behind {votes} votes"
+        "of {guest} by {mode} behind {votes} votes"
     );
     Ok(())
 }

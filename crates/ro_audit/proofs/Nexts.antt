@@ -4,7 +4,7 @@ use Rattle.std.specs.Prelude.{◌↔◌, IsTrue, IsSome, is_some}
 use Rattle.std.proofs.lemmas.List.{append_assoc}
 use Rattle.ro_journal.specs.declared.How.{How}
 use Rattle.ro_journal.specs.declared.Entry.{Entry}
-use Rattle.ro_journal.specs.declared.Entry.TheVariants.{Take, Vote, Free, Scrub, End}
+use Rattle.ro_journal.specs.declared.Entry.TheVariants.{Take, Put, Part, Vote, Free, Scrub, End}
 use Rattle.ro_journal.specs.declared.Lease.{Lease}
 use Rattle.ro_journal.specs.declared.Lost.{Lost}
 use Rattle.ro_journal.specs.declared.Did.{Did}
@@ -18,35 +18,13 @@ use Rattle.ro_legal.specs.Modes.{Mode, in_mode}
 use Rattle.ro_legal.specs.Modes as modes
 use Rattle.ro_legal.specs.Rules.{IsFit, IsNext, EachIsNext, replay}
 use Rattle.ro_legal.proofs.Nexts.{vote_next, free_next, scrub_next}
-use Rattle.ro_legal.proofs.Rules.{next-more}
+use Rattle.ro_legal.proofs.Rules.{next-more, put-next, part-next}
 use Rattle.ro_cores.proofs.Unscrubbed.{no-scrub}
 use Rattle.ro_audit.specs.Audits.{FirstOdd, NextUpTo}
 
 -- ---- an entry that is next
 
 module _ (job : Job) (core : Core) where
-  -- a take, a vote and a free are next alike in either mode
-  take-in : (mode : Mode) (lease : Lease) (b : Bool) → IsTrue b ↔ (next_action job core ≡ Lend lease.replica lease.thread) → IsTrue b ↔ modes.IsNext mode job core (Take lease)
-  take-in Voted lease b is = is
-  take-in Cooperative lease b is = is
-
-  pub take-nexts : (lease : Lease) (b : Bool) → IsTrue b ↔ (next_action job core ≡ Lend lease.replica lease.thread) → IsTrue b ↔ IsNext job core (Take lease)
-  take-nexts = take-in job.settings.mode
-
-  vote-in : (mode : Mode) (thread count won : ℕ) (lost : Lost) (did : Did) (b : Bool) → IsTrue b ↔ (next_action job core ≡ DoVote thread) → IsTrue b ↔ modes.IsNext mode job core (Vote thread count won lost did)
-  vote-in Voted thread count won lost did b is = is
-  vote-in Cooperative thread count won lost did b is = is
-
-  pub vote-nexts : (thread count won : ℕ) (lost : Lost) (did : Did) (b : Bool) → IsTrue b ↔ (next_action job core ≡ DoVote thread) → IsTrue b ↔ IsNext job core (Vote thread count won lost did)
-  vote-nexts = vote-in job.settings.mode
-
-  free-in : (mode : Mode) (thread : ℕ) (b : Bool) → IsTrue b ↔ (next_action job core ≡ DoFree thread) → IsTrue b ↔ modes.IsNext mode job core (Free thread)
-  free-in Voted thread b is = is
-  free-in Cooperative thread b is = is
-
-  pub free-nexts : (thread : ℕ) (b : Bool) → IsTrue b ↔ (next_action job core ≡ DoFree thread) → IsTrue b ↔ IsNext job core (Free thread)
-  free-nexts = free-in job.settings.mode
-
   -- no scrub is next in a cooperative run
   scrub-in : (mode : Mode) → modes.Suits mode job → (won : ℕ) (lost : Lost) (b : Bool) → IsTrue b ↔ (next_action job core ≡ DoScrub) → IsTrue b ↔ modes.IsNext mode job core (Scrub won lost)
   scrub-in Voted suits won lost b is = is
@@ -84,12 +62,7 @@ module _ (job : Job) (core : Core) where
   so-next Cooperative how Wait is ends = absurd ends
   so-next Cooperative how Over is ends = absurd ends
 
-  -- so it is where it is a failing sink's
-  sink-in : (mode : Mode) (how : How) → EndsSink core how → modes.IsNext mode job core (End how)
-  sink-in Voted how ends = inr (inl ends)
-  sink-in Cooperative how ends = inr (inl ends)
-
-  -- and nowhere else
+  -- and where such an end is next, it is a failing sink's, or the action that comes next comes to it
   next-so : (mode : Mode) (how : How) → modes.IsNext mode job core (End how) → EndsSink core how ⊎ EndsFor mode how (next_action job core)
   next-so Voted how (inl is) = inr (subst (EndsFor Voted how) (sym is) refl)
   next-so Voted how (inr (inl ends)) = inl ends
@@ -100,9 +73,6 @@ module _ (job : Job) (core : Core) where
   next-so Cooperative how (inr (inl ends)) = inl ends
   next-so Cooperative how (inr (inr (inl (thread, is, ends)))) = inr (subst (EndsFor Cooperative how) (sym is) (vote_next job core thread is, ends))
   next-so Cooperative how (inr (inr (inr (thread, is, ends)))) = inr (subst (EndsFor Cooperative how) (sym is) (free_next job core thread is, ends))
-
-  pub sink-nexts : (how : How) → EndsSink core how → IsNext job core (End how)
-  sink-nexts = sink-in job.settings.mode
 
   -- whether it is, where it is none of a failing sink and this action comes next
   pub end-nexts : (how : How) → (EndsSink core how → ⊥) → (action : Action) → next_action job core ≡ action → (b : Bool) → IsTrue b ↔ EndsFor job.settings.mode how action → IsTrue b ↔ IsNext job core (End how)

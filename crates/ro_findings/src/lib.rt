@@ -9,5 +9,6 @@ mod sentences;
 
 pub use findings::{
     CopyMade, Differed, Ended, Field, Findings, Instruction, Mapped, Odd, Part, Place, Split,
-    Standing, State, Strike, Symbol, ThreadFields, ThreadParts, Trapped, Variable, Verdict, Waiting,
+    Standing, State, Strike, Symbol, ThreadFields, ThreadParts, Trapped, Variable, Verdict,
+    Waiting,
 };

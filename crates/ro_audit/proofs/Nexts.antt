@@ -1,13 +1,11 @@
 -- What the run does next, by the rules of the job's mode, and the first entry that is not that.
 use Rattle.std.proofs.Common.{◌≡◌, ◌⊎◌, inl, inr, ℕ, Bool, true, false, List, [], ◌∷◌, ◌++◌, length, Option, Some, None, refl, sym, ap, ◌∙◌, subst}
-use Rattle.std.specs.Prelude.{◌↔◌, IsTrue, IsSome, is_some}
+use Rattle.std.specs.Prelude.{◌↔◌, IsTrue, is_some}
 use Rattle.std.proofs.lemmas.List.{append_assoc}
 use Rattle.ro_journal.specs.declared.How.{How}
 use Rattle.ro_journal.specs.declared.Entry.{Entry}
-use Rattle.ro_journal.specs.declared.Entry.TheVariants.{Take, Put, Part, Vote, Free, Scrub, End}
-use Rattle.ro_journal.specs.declared.Lease.{Lease}
+use Rattle.ro_journal.specs.declared.Entry.TheVariants.{Scrub, End}
 use Rattle.ro_journal.specs.declared.Lost.{Lost}
-use Rattle.ro_journal.specs.declared.Did.{Did}
 use Rattle.ro_settings.specs.declared.Mode.TheVariants.{Voted, Cooperative}
 use Rattle.ro_legal.specs.declared.actions.Action.{Action}
 use Rattle.ro_legal.specs.declared.actions.Action.TheVariants.{Vote as DoVote, Free as DoFree, Scrub as DoScrub, Lend, End as DoEnd, Wait, Over}
@@ -18,7 +16,7 @@ use Rattle.ro_legal.specs.Modes.{Mode, in_mode}
 use Rattle.ro_legal.specs.Modes as modes
 use Rattle.ro_legal.specs.Rules.{IsFit, IsNext, EachIsNext, replay}
 use Rattle.ro_legal.proofs.Nexts.{vote_next, free_next, scrub_next}
-use Rattle.ro_legal.proofs.Rules.{next-more, put-next, part-next}
+use Rattle.ro_legal.proofs.Rules.{next-more}
 use Rattle.ro_cores.proofs.Unscrubbed.{no-scrub}
 use Rattle.ro_audit.specs.Audits.{FirstOdd, NextUpTo}
 

@@ -1,4 +1,4 @@
-"""What an audit tells of a journal: its JSON, and the sentences of its copies and of what is not allowed."""
+"""What an audit tells of a journal: its JSON, and the sentences of its copies, of what is not allowed and of what doesn't come next."""
 from auditing.cores import Copy, Core, Judged, Whole, unlike, unlike_whole
 from auditing.drawing import line_of
 from auditing.jobs import Entry, Fault
@@ -43,7 +43,15 @@ def told(judged: Judged, entries: list[Entry]) -> dict:
         why = reason_of(core_behind(type(judged.core), judged.core.job, entries[:judged.place]), entry)
         return {"entries": len(entries), "verdict": "illegal", "place": judged.place, "entry": line_of(entry), "why": why, "copies": copies}
     end = end_told(judged.core, entries) if judged.core.ended else None
-    return {"entries": len(entries), "verdict": "legal", "steps": judged.core.steps, "end": end, "copies": copies}
+    odd = None if judged.other is None else {"place": judged.other, "entry": line_of(entries[judged.other])}
+    return {"entries": len(entries), "verdict": "legal", "steps": judged.core.steps, "odd": odd, "end": end, "copies": copies}
+
+
+def odd_line(told: dict) -> str:
+    """The sentence of what is told of a legal journal: which entry is the first that isn't what the run does next."""
+    if told["odd"] is None:
+        return "Each entry is what the run does next."
+    return "Entry {place} is the first that is not what the run does next: {entry}".format(**told["odd"])
 
 
 def illegal_lines(told: dict) -> list[str]:

@@ -12,6 +12,8 @@ pub mod Got
 pub mod Refused
 -- an end that is not allowed
 pub mod Ends
+-- what the run does next, and the first entry that is not that
+pub mod Nexts
 -- the follower behind an entry
 pub mod Steps
 -- what is told

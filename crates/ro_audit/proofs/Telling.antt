@@ -9,7 +9,7 @@ use Rattle.ro_legal.specs.Rules.{output_of}
 use Rattle.ro_core.specs.Seen.{CoreOf}
 use Rattle.ro_cores.specs.Loans.{LentOf, IsJoined}
 use Rattle.ro_audit.specs.declared.follower.Why.{Why}
-use Rattle.ro_audit.specs.Audits.{FirstIllegal, IsRefused}
+use Rattle.ro_audit.specs.Audits.{FirstIllegal, IsRefused, NextUpTo}
 use Rattle.ro_audit.specs.Following.{AtEntry, Follows}
 use Rattle.ro_audit.proofs.Got.{knows-joined}
 
@@ -41,11 +41,12 @@ at-place core journal place entry other is less here = record {
 
 -- ---- a journal that was followed to its end
 
-pub followed-whole : (core : CoreOf) (lent : List (Option LentOf)) (rows : Rows) (output : List ℕ) (job : Job) (journal : List Entry) (place : ℕ) → core.job ≡ job → Follows core lent rows output → core.journal ≡ take place journal → length journal ≤ place
-    → (core.journal ≡ journal) × (output ≡ output_of job journal) × IsJoined job journal
-followed-whole core lent rows output job journal place job_is f is past =
+pub followed-whole : (core : CoreOf) (lent : List (Option LentOf)) (rows : Rows) (output : List ℕ) (job : Job) (journal : List Entry) (place : ℕ) (odd : Option ℕ) → core.job ≡ job → Follows core lent rows output → core.journal ≡ take place journal → length journal ≤ place → NextUpTo core.job core.journal odd
+    → (core.journal ≡ journal) × (output ≡ output_of job journal) × IsJoined job journal × NextUpTo job journal odd
+followed-whole core lent rows output job journal place odd job_is f is past next =
     let whole : core.journal ≡ journal = is ∙ take_all place journal past in (
       whole,
       f.output_is ∙ ap (λ (j : Job). output_of j core.journal) job_is ∙ ap (output_of job) whole,
       subst (λ (j : Job). IsJoined j journal) job_is (subst (IsJoined core.job) whole (knows-joined core.job core.journal rows f.got)),
+      subst (λ (j : Job). NextUpTo j journal odd) job_is (subst (λ (js : List Entry). NextUpTo core.job js odd) whole next),
     )

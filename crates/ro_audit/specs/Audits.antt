@@ -1,5 +1,5 @@
 -- What an audit tells of a journal, by the rules of the job's mode.
-use Rattle.std.specs.Prelude.{◌≡◌, ◌≢◌, ◌⊎◌, ◌≤◌, ◌<◌, ◌+◌, ℕ, Bool, true, false, List, [], ◌∷◌, ◌++◌, Contains, length, Some, None, IsSome}
+use Rattle.std.specs.Prelude.{◌≡◌, ◌≢◌, ◌⊎◌, ◌≤◌, ◌<◌, ◌+◌, ℕ, Bool, true, false, List, [], ◌∷◌, ◌++◌, Contains, length, Option, Some, None, IsSome}
 use Rattle.ro_journal.specs.declared.How.TheVariants.{Differ, NoMajority}
 use Rattle.ro_journal.specs.declared.Lease.{Lease}
 use Rattle.ro_journal.specs.declared.Entry.{Entry}
@@ -10,7 +10,7 @@ use Rattle.ro_peer.specs.Gets.{Get}
 use Rattle.ro_legal.specs.Core.{Job, Core, is_out, may_vote, may_free}
 use Rattle.ro_legal.specs.Legal.{MayTake, may_scrub}
 use Rattle.ro_legal.specs.Modes.{InMode, in_mode}
-use Rattle.ro_legal.specs.Rules.{IsAllowed, Legal, DecidesVote, DecidesFree, DecidesScrub, replay, output_of}
+use Rattle.ro_legal.specs.Rules.{IsAllowed, Legal, DecidesVote, DecidesFree, DecidesScrub, IsNext, EachIsNext, replay, output_of}
 use Rattle.ro_legal.specs.Cooperative.{gets_from, lease_gets, opening_core}
 use Rattle.ro_legal.specs.Cooperative as together
 use Rattle.ro_cores.specs.Cores.{KeepsViews}
@@ -120,10 +120,26 @@ pub record FirstIllegal (job : Job) (journal : List Entry) (place : ℕ) (why : 
   pub not_allowed : IsAllowed job (replay job before) entry → IsJoined job (before ++ entry ∷ []) → ⊥
   pub reason : IsReason job (replay job before) (got_in job before) entry why
 
+-- the entry at the place is the first that is not what the run does next
+pub record FirstOdd (job : Job) (journal : List Entry) (place : ℕ) : Type 0 where
+  pub before : List Entry
+  pub entry : Entry
+  pub rest : List Entry
+  pub journal_is : journal ≡ before ++ entry ∷ rest
+  pub place_is : length before ≡ place
+  pub next : EachIsNext job before
+  pub odd : IsNext job (replay job before) entry → ⊥
+
+-- each entry is what the run does next, or the one at the place is the first that is not
+abbrev pub NextUpTo : Job → List Entry → Option ℕ → Type 0
+NextUpTo job journal None = EachIsNext job journal
+NextUpTo job journal (Some place) = FirstOdd job journal place
+
 -- the journal is legal, all that was got stands in rows, and this is what its replay comes to
 pub record Tells (job : Job) (journal : List Entry) (audited : Audited) : Type 0 where
   pub legal : Legal job journal
   pub joined : IsJoined job journal
+  pub next : NextUpTo job journal audited.odd
   pub how : audited.how ≡ outcome_of journal
   pub steps : audited.steps ≡ length (plan_in job.settings.mode journal)
   pub output : audited.output.items ≡ output_of job journal

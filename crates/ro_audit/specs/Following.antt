@@ -40,7 +40,7 @@ use Rattle.ro_audit.specs.declared.follower.Walk.TheVariants.{Stopped}
 use Rattle.ro_audit.specs.declared.follower.Walk.TheVariants as walks
 use Rattle.ro_audit.specs.declared.follower.Why.{Why}
 use Rattle.ro_audit.specs.declared.follower.Why.TheVariants.{Comes}
-use Rattle.ro_audit.specs.Audits.{FirstIllegal, IsRefused, got_in, scrubs}
+use Rattle.ro_audit.specs.Audits.{FirstIllegal, IsRefused, NextUpTo, got_in, scrubs}
 
 -- ---- what is lent
 
@@ -153,9 +153,9 @@ pub record AtEntry (core : CoreOf) (journal : List Entry) (place : ℕ) (entry :
   pub journal_is : journal ≡ core.journal ++ entry ∷ rest
   pub place_is : length core.journal ≡ place
 
--- what became of a journal: all of it was followed, or an entry is not allowed
+-- what became of a journal: all of it was followed, and where it is not what comes next, or an entry is not allowed
 abbrev pub Walked : Job → List Entry → Walk → CoreOf → (output : List ℕ) → Type 0
-Walked job journal walks.Whole core output = (core.journal ≡ journal) × (output ≡ output_of job journal) × IsJoined job journal
+Walked job journal (walks.Whole odd) core output = (core.journal ≡ journal) × (output ≡ output_of job journal) × IsJoined job journal × NextUpTo job journal odd
 Walked job journal (Stopped place why) core output = FirstIllegal job journal place why
 
 -- ---- the trail

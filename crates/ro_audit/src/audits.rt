@@ -7,7 +7,7 @@ ghost use Rattle.ro_legal.specs.Core.{Job};
 ghost use Rattle.ro_legal.specs.Jobs.{job_of};
 ghost use Rattle.ro_legal.specs.Rules.{IsFit, output_of};
 ghost use Rattle.ro_cores.specs.Loans.{IsJoined};
-ghost use Rattle.ro_audit.specs.Audits.{Tells, IsCause};
+ghost use Rattle.ro_audit.specs.Audits.{NextUpTo, Tells, IsCause};
 ghost use Rattle.ro_audit.specs.Following.{IsTrail};
 
 use crate::audit_cores::AuditCore;
@@ -32,6 +32,8 @@ pub struct Audited {
     pub steps: u64,
     /// What it wrote.
     pub output: Vec<u8>,
+    /// The place of the first entry, from 0, that is not what the run does next; none where each is.
+    pub odd: Option<usize>,
     /// Where it ended by a vote of views that had no majority, those views in the order of the replicas; none where it ended by a
     /// scrub.
     pub views: Vec<View>,
@@ -150,8 +152,8 @@ impl<C: AuditCore> Trail<C> {
     {
         let Trail { follower, walk } = self;
         match walk {
-            Walk::Whole => {
-                let (image, audited) = whole(follower);
+            Walk::Whole { odd } => {
+                let (image, audited) = whole(follower, odd);
                 (image, Ok(audited))
             }
             Walk::Stopped { place, why } => {
@@ -162,11 +164,11 @@ impl<C: AuditCore> Trail<C> {
     }
 }
 
-// The image, and what a journal that was followed to its end comes to.
-fn whole<C: AuditCore>(follower: Follower<C>) -> (Executable, Audited)
+// The image, and what a journal that was followed to its end comes to, which has its first odd entry there.
+fn whole<C: AuditCore>(follower: Follower<C>, odd: Option<usize>) -> (Executable, Audited)
     requires holds { C.holds follower.core }
     ensures image { result.0 ≡ (C.seen follower.core).job.program.image }
-    ensures tells { let core = C.seen follower.core in follower.output.items ≡ output_of core.job core.journal → IsJoined core.job core.journal → Tells core.job core.journal result.1 }
+    ensures tells { let core = C.seen follower.core in follower.output.items ≡ output_of core.job core.journal → IsJoined core.job core.journal → NextUpTo core.job core.journal odd → Tells core.job core.journal result.1 }
 {
     let Follower {
         core,
@@ -188,6 +190,7 @@ fn whole<C: AuditCore>(follower: Follower<C>) -> (Executable, Audited)
         how,
         steps,
         output,
+        odd,
         views,
     };
     (image, audited)

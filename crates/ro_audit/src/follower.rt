@@ -1,5 +1,5 @@
 //! A follower of a journal: a core that makes the same entries, and what it lent.
-ghost use Rattle.std.specs.Prelude.{◌≡◌, ◌≢◌, ◌⊎◌, ◌<◌, ◌↔◌, ℕ, [], IfErr, IfOk, IfSome, IsTrue, None, Some, length, true};
+ghost use Rattle.std.specs.Prelude.{◌≡◌, ◌≢◌, ◌⊎◌, ◌<◌, ◌↔◌, ◌++◌, ◌∷◌, ℕ, [], IfErr, IfOk, IfSome, IsTrue, None, Some, length, true};
 ghost use Rattle.ro_journal.specs.declared.Entry.TheVariants.{Take, Scrub, End};
 ghost use Rattle.ro_settings.specs.Ranges.{InRange};
 ghost use Rattle.ro_replica.specs.Seen.{AreFaults};
@@ -7,11 +7,11 @@ ghost use Rattle.ro_legal.specs.declared.actions.Action.TheVariants as act;
 ghost use Rattle.ro_legal.specs.Action.{next_action as next};
 ghost use Rattle.ro_legal.specs.Core.{may_vote, may_free};
 ghost use Rattle.ro_legal.specs.Jobs.{job_of};
-ghost use Rattle.ro_legal.specs.Legal.{EndsAlone, EndsFree};
-ghost use Rattle.ro_legal.specs.Rules.{IsFit, DecidesVote, DecidesFree, DecidesScrub, EndsVote, EndsScrub};
+ghost use Rattle.ro_legal.specs.Legal.{EndsAlone, EndsFree, EndsSink};
+ghost use Rattle.ro_legal.specs.Rules.{IsFit, DecidesVote, DecidesFree, DecidesScrub, EndsVote, EndsScrub, IsNext};
 ghost use Rattle.ro_cores.specs.Cores.{left_by};
 ghost use Rattle.ro_cores.specs.Loans.{Returns};
-ghost use Rattle.ro_audit.specs.Audits.{scrubs};
+ghost use Rattle.ro_audit.specs.Audits.{NextUpTo, scrubs};
 ghost use Rattle.ro_audit.specs.Following.{Follows, Followed, IsInPlace, IsUnless, NotByThread, NotInPlace, Same, Walked};
 
 use crate::audit_cores::AuditCore;
@@ -72,8 +72,8 @@ pub enum Why {
 /// What became of a journal that was followed.
 #[derive(Clone, Copy, Debug, PartialEq, Eq)]
 pub(crate) enum Walk {
-    /// All of it was followed.
-    Whole,
+    /// All of it was followed, and which place has the first entry that is not what the run does next, if one has.
+    Whole { odd: Option<usize> },
     /// The entry at this place is not allowed, and why it is not.
     Stopped { place: usize, why: Why },
 }
@@ -125,7 +125,7 @@ impl<C: AuditCore> Follower<C> {
         })
     }
 
-    /// Follows the entries up to the first that is not allowed.
+    /// Follows the entries up to the first that is not allowed, and notes the first that is not what the run does next.
     ///
     /// # Errors
     /// Where there is no memory.
@@ -137,12 +137,14 @@ impl<C: AuditCore> Follower<C> {
         ensures job { (C.seen self.new.core).job ≡ (C.seen self.old.core).job }
         ensures walked { IfOk result (λ walk. Walked (C.seen self.old.core).job journal.now walk (C.seen self.new.core) self.new.output.items) }
     {
+        let mut odd = None;
         for (place, entry) in journal.iter().enumerate() {
+            odd = self.first_odd(odd, place, entry);
             if let Some(why) = self.follow(entry)? {
                 return Ok(Walk::Stopped { place, why });
             }
         }
-        Ok(Walk::Whole)
+        Ok(Walk::Whole { odd })
     }
 
     /// Lets all go but the image.
@@ -202,6 +204,79 @@ impl<C: AuditCore> Follower<C> {
             }
             Entry::Scrub { won, lost } => self.scrub_noted(won, lost),
             Entry::End { how } => self.end(how),
+        }
+    }
+
+    // The place of the first entry that is not what the run does next, up to this entry; what it was before is known. Where there
+    // is one, nothing is asked of this entry.
+    fn first_odd(&mut self, before: Option<usize>, place: usize, entry: &Entry) -> Option<usize>
+        requires holds { C.holds self.old.core }
+        requires follows { Follows (C.seen self.old.core) self.old.lent.items (C.got_of self.old.got) self.old.output.items }
+        requires place { length (C.seen self.old.core).journal ≡ place }
+        requires next { NextUpTo (C.seen self.old.core).job (C.seen self.old.core).journal before }
+        ensures holds { C.holds self.new.core }
+        ensures follows { Follows (C.seen self.new.core) self.new.lent.items (C.got_of self.new.got) self.new.output.items }
+        ensures same { Same (C.seen self.old.core) (C.seen self.new.core) }
+        ensures next { NextUpTo (C.seen self.old.core).job ((C.seen self.old.core).journal ++ entry.now ∷ []) result }
+    {
+        if before.is_some() {
+            return before;
+        }
+        if self.is_next(entry) {
+            return None;
+        }
+        Some(place)
+    }
+
+    // Whether an entry is what the run does next. A lease comes back at any time.
+    fn is_next(&mut self, entry: &Entry) -> bool
+        requires holds { C.holds self.old.core }
+        requires follows { Follows (C.seen self.old.core) self.old.lent.items (C.got_of self.old.got) self.old.output.items }
+        ensures holds { C.holds self.new.core }
+        ensures follows { Follows (C.seen self.new.core) self.new.lent.items (C.got_of self.new.got) self.new.output.items }
+        ensures same { Same (C.seen self.old.core) (C.seen self.new.core) }
+        ensures next { IsTrue result ↔ IsNext (C.seen self.old.core).job (left_by (C.seen self.old.core)) entry.now }
+    {
+        match *entry {
+            Entry::Take(lease) => self.comes(Action::Lend {
+                replica: lease.replica,
+                thread: lease.thread,
+            }),
+            Entry::Put { .. } | Entry::Part { .. } => true,
+            Entry::Vote { thread, .. } => self.comes(Action::Vote(thread)),
+            Entry::Free { thread } => self.comes(Action::Free(thread)),
+            Entry::Scrub { .. } => self.comes(Action::Scrub),
+            Entry::End { how } => self.ends_next(how),
+        }
+    }
+
+    // Whether this comes next.
+    fn comes(&self, action: Action) -> bool
+        requires { C.holds self.now.core }
+        ensures { IsTrue result ↔ (next (C.seen self.now.core).job (left_by (C.seen self.now.core)) ≡ action) }
+    {
+        is_same_action(self.core.next_action(), action)
+    }
+
+    // Whether the run ends so next: that comes next, or in the place of the vote, the free or the scrub that does, or it is a failing
+    // sink's end.
+    fn ends_next(&mut self, how: How) -> bool
+        requires holds { C.holds self.old.core }
+        requires follows { Follows (C.seen self.old.core) self.old.lent.items (C.got_of self.old.got) self.old.output.items }
+        ensures holds { C.holds self.new.core }
+        ensures follows { Follows (C.seen self.new.core) self.new.lent.items (C.got_of self.new.got) self.new.output.items }
+        ensures same { Same (C.seen self.old.core) (C.seen self.new.core) }
+        ensures next { IsTrue result ↔ IsNext (C.seen self.old.core).job (left_by (C.seen self.old.core)) (End how) }
+    {
+        if self.ends_sink(how) {
+            return true;
+        }
+        match self.core.next_action() {
+            Action::Vote(thread) => self.ends_vote(thread, how),
+            Action::Free(thread) => self.ends_free(thread, how),
+            Action::Scrub => self.ends_scrub(how),
+            Action::End(due) => is_same_how(due, how),
+            Action::Lend { .. } | Action::Wait | Action::Over => false,
         }
     }
 
@@ -398,10 +473,7 @@ impl<C: AuditCore> Follower<C> {
         requires { C.holds self.now.core }
         ensures { IsTrue result ↔ ((next (C.seen self.now.core).job (left_by (C.seen self.now.core)) ≡ act.End how) ⊎ EndsAlone (C.seen self.now.core).job (left_by (C.seen self.now.core)) how) }
     {
-        if is_end(self.core.next_action(), how) {
-            return true;
-        }
-        self.ends_alone(how)
+        self.comes(Action::End(how)) || self.ends_alone(how)
     }
 
     // Whether nothing can be done and this is a deadlock, or bytes of the last write are left and it is a failing sink's end.
@@ -411,6 +483,16 @@ impl<C: AuditCore> Follower<C> {
     {
         match how {
             How::Deadlock => self.core.is_stuck(),
+            _ => self.ends_sink(how),
+        }
+    }
+
+    // Whether bytes of the last write are left and this is a failing sink's end.
+    fn ends_sink(&self, how: How) -> bool
+        requires { C.holds self.now.core }
+        ensures { IsTrue result ↔ EndsSink (left_by (C.seen self.now.core)) how }
+    {
+        match how {
             How::Sink(taken) => self.core.is_going() && taken < self.core.wrote(),
             _ => false,
         }
@@ -512,10 +594,16 @@ pub(crate) fn is_same(came: &Entry, entry: &Entry) -> bool
     came == entry
 }
 
-fn is_end(action: Action, how: How) -> bool
-    ensures { IsTrue result ↔ (action ≡ act.End how) }
+fn is_same_action(one: Action, other: Action) -> bool
+    ensures { IsTrue result ↔ (one ≡ other) }
 {
-    action == Action::End(how)
+    one == other
+}
+
+fn is_same_how(one: How, other: How) -> bool
+    ensures { IsTrue result ↔ (one ≡ other) }
+{
+    one == other
 }
 
 fn is_how(end: Option<How>, how: How) -> bool

@@ -107,7 +107,7 @@ impl<'a> Deciding<'a> {
 
 // What was got are rows, and those that may be got are below the ceilings, which stay.
 impl<'a> Locks for Deciding<'a> {
-    ghost use Rattle.std.specs.Prelude.{List, ℕ};
+    ghost use Rattle.std.specs.Prelude.{⊤, List, ℕ};
     ghost use Rattle.ro_locking.specs.Asking.{below};
     ghost use Rattle.ro_audit.specs.Ranks.{rows_in, won_in};
 
@@ -142,7 +142,7 @@ impl<'a> Locks for Deciding<'a> {
 pub(crate) struct ForNobody;
 
 impl Locks for ForNobody {
-    ghost use Rattle.std.specs.Prelude.{None};
+    ghost use Rattle.std.specs.Prelude.{⊤, None};
 
     ghost won = { λ locks number rank thread. ⊥ };
 

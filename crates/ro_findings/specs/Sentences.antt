@@ -5,7 +5,7 @@ use Rattle.ro_findings.specs.declared.findings.Verdict.TheVariants.{Legal, Illeg
 
 -- the line that says whether the journal is legal, and if not, which entry is the first that is not allowed, from 0
 abbrev pub first_line : Verdict → List ℕ
-first_line (Legal steps end) = codes "legal\n"
+first_line (Legal steps end odd) = codes "legal\n"
 first_line (Illegal place entry why) = codes "illegal " ++ decimal place ++ codes "\n"
 
 -- the text begins with that line

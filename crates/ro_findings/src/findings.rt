@@ -21,10 +21,11 @@ pub struct Findings {
 #[derive(Drop, Serialize)]
 #[serde(tag = "verdict", rename_all = "lowercase")]
 pub enum Verdict {
-    /// The length of its plan, and how the run ended, if it did.
+    /// The length of its plan, how the run ended, if it did, and the first entry that is not what the run does next, if one is not.
     Legal {
         steps: u64,
         end: Option<Ended>,
+        odd: Option<Odd>,
     },
     /// The first entry that is not allowed, and why it is not.
     Illegal {
@@ -34,6 +35,15 @@ pub enum Verdict {
         #[serde(serialize_with = "crate::json::write_why")]
         why: Why,
     },
+}
+
+/// An entry that is allowed, and is not what the run does next.
+#[derive(Clone, Copy, Debug, PartialEq, Eq, Serialize)]
+pub struct Odd {
+    /// Its place, from 0.
+    pub place: usize,
+    #[serde(serialize_with = "crate::json::write_entry")]
+    pub entry: Entry,
 }
 
 /// How a run ended.

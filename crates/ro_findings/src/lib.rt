@@ -8,6 +8,7 @@ mod registers;
 mod sentences;
 
 pub use findings::{
-    CopyMade, Differed, Ended, Field, Findings, Instruction, Mapped, Part, Place, Split, Standing,
-    State, Strike, Symbol, ThreadFields, ThreadParts, Trapped, Variable, Verdict, Waiting,
+    CopyMade, Differed, Ended, Field, Findings, Instruction, Mapped, Odd, Part, Place, Split,
+    Standing, State, Strike, Symbol, ThreadFields, ThreadParts, Trapped, Variable, Verdict,
+    Waiting,
 };

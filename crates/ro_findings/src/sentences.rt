@@ -4,8 +4,8 @@ ghost use Rattle.std.specs.String.{string_bytes};
 ghost use Rattle.ro_findings.specs.Sentences.{TellsVerdict, first_line};
 
 use crate::findings::{
-    CopyMade, Differed, Ended, Field, Findings, Instruction, Mapped, Part, Split, Standing, State,
-    Strike, ThreadFields, ThreadParts, Trapped, Variable, Verdict, Waiting,
+    CopyMade, Differed, Ended, Field, Findings, Instruction, Mapped, Odd, Part, Split, Standing,
+    State, Strike, ThreadFields, ThreadParts, Trapped, Variable, Verdict, Waiting,
 };
 use crate::lines::WithoutEnd;
 use crate::registers::Named;
@@ -35,12 +35,13 @@ impl Findings {
     fn details(&self, alloc: Global) -> Result<String, AllocError> {
         let mut text = String::new(alloc);
         match &self.verdict {
-            Verdict::Legal { steps, end } => {
+            Verdict::Legal { steps, end, odd } => {
                 let count = self.entries;
                 writeln!(
                     text,
                     "The journal has {count} entries, and its plan {steps} steps."
                 )?;
+                tell_odd(&mut text, *odd)?;
                 tell_end(&mut text, end)?;
             }
             Verdict::Illegal { entry, why, .. } => tell_illegal(&mut text, entry, *why)?,
@@ -60,6 +61,18 @@ fn first_line(alloc: Global, verdict: &Verdict) -> Result<String, AllocError>
         Verdict::Legal { .. } => String::from_str(alloc, "legal\n"),
         Verdict::Illegal { place, .. } => format!(in alloc; "illegal {place}\n"),
     }
+}
+
+// Which entry is the first that is not what the run does next.
+fn tell_odd(text: &mut String, odd: Option<Odd>) -> Result<(), AllocError> {
+    let Some(Odd { place, entry }) = odd else {
+        return writeln!(text, "Each entry is what the run does next.");
+    };
+    let line = WithoutEnd(entry_text(&entry));
+    writeln!(
+        text,
+        "Entry {place} is the first that is not what the run does next: {line}"
+    )
 }
 
 // How the run ended.

@@ -17,7 +17,7 @@ use Rattle.ro_event.specs.Views.{View}
 use Rattle.ro_core.specs.Seen.{EndsByScrub, ShowsViews}
 use Rattle.ro_coop_core.specs.Seen.{ShowsViews as ShowsUnlike}
 use Rattle.ro_cores.specs.Loans.{IsJoined}
-use Rattle.ro_audit.specs.Audits.{FirstIllegal}
+use Rattle.ro_audit.specs.Audits.{FirstIllegal, NextUpTo}
 use Rattle.ro_files.specs.Files.{IsContent, IsJobOf}
 use Rattle.ro_words.specs.Commands.{AskedRun}
 use Rattle.ro_findings.specs.declared.findings.Ended.{Ended}
@@ -30,6 +30,7 @@ use Rattle.ro_findings.specs.declared.findings.CopyMade.{CopyMade}
 use Rattle.ro_findings.specs.declared.findings.Differed.{Differed}
 use Rattle.ro_findings.specs.declared.findings.Differed.TheVariants.{AtVote, AtScrub}
 use Rattle.ro_findings.specs.declared.findings.Findings.{Findings}
+use Rattle.ro_findings.specs.declared.findings.Odd.{Odd}
 
 -- the same job, to be run in the mode
 abbrev pub job_in : Mode → Job → Job
@@ -74,11 +75,17 @@ IsEnded job entries (Differ split) = IsSplitOf job entries split
 IsEnded job entries (NoMajority split) = IsSplitOf job entries split
 IsEnded job entries _ = ⊤
 
--- the journal is legal and all that was got stands in rows, with a plan of so many steps and this end, or the entry at the place is the
--- first that is not allowed, and why
+-- each entry is what the run does next, or the one that is told is the first that is not
+abbrev pub TellsNext : Job → List Entry → Option Odd → Type 0
+TellsNext job entries None = NextUpTo job entries None
+TellsNext job entries (Some odd) = NextUpTo job entries (Some odd.place) × (slice_get entries odd.place ≡ Some odd.entry)
+
+-- the journal is legal and all that was got stands in rows, with a plan of so many steps, this end and this first entry that is not what
+-- the run does next; or the entry at the place is the first that is not allowed, and why
 abbrev pub Judges : Job → List Entry → Verdict → Type 0
-Judges job entries (Legal steps end) =
+Judges job entries (Legal steps end odd) =
     IsLegal job entries × IsJoined job entries × (steps ≡ length (plan_in job.settings.mode entries)) × (option_map how_of end ≡ outcome_of entries) × IfSome end (IsEnded job entries)
+    × TellsNext job entries odd
 Judges job entries (Illegal place entry why) = FirstIllegal job entries place why × (slice_get entries place ≡ Some entry)
 
 -- a copy that a vote or a scrub made: the place of its entry, the thread that was voted on, and the replica that lost
@@ -113,7 +120,7 @@ copies_from place (entry ∷ entries) = copies_at place entry ++ copies_from (su
 
 -- the entries that are allowed
 abbrev pub allowed_in : Verdict → List Entry → List Entry
-allowed_in (Legal steps end) entries = entries
+allowed_in (Legal steps end odd) entries = entries
 allowed_in (Illegal place entry why) entries = take place entries
 
 -- what is found of a journal

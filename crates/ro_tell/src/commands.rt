@@ -14,12 +14,12 @@ ghost use Rattle.ro_words.specs.Commands.{AskedAudit, audit_of, run_by};
 ghost use Rattle.ro_words.specs.Uses.{texts_of};
 ghost use Rattle.ro_words.specs.declared.commands.WordsError.TheVariants as w;
 ghost use Rattle.ro_legal.specs.Jobs.{job_of, CanRun};
-ghost use Rattle.ro_audit.specs.Audits.{FirstIllegal, Tells};
+ghost use Rattle.ro_audit.specs.Audits.{FirstIllegal, NextUpTo, Tells};
 ghost use Rattle.ro_audit.specs.Following.{IsTrail};
 ghost use Rattle.ro_findings.specs.Sentences.{TellsVerdict};
 ghost use Rattle.ro_tell.specs.declared.commands.Form.TheVariants as f;
 ghost use Rattle.ro_tell.specs.Causes.{AuditCause, RefusesJournal, RefusesText, WordsCause, audit_names};
-ghost use Rattle.ro_tell.specs.Judging.{Finds, IsAuditOf, IsJournalOf, TellsSplit, how_of, job_in};
+ghost use Rattle.ro_tell.specs.Judging.{Finds, IsAuditOf, IsJournalOf, TellsNext, TellsSplit, how_of, job_in};
 
 use crate::copies::{copies_made, differences};
 use crate::fields::{Unlike, ends_split, split_of};
@@ -27,7 +27,7 @@ use crate::standing::Stood;
 use ro_audit::{AuditCore, AuditError, Audited, Difference, Trail, Why, trace};
 use ro_faults::Fault;
 use ro_files::{FetchedJob, Job, fetch, fetch_job, journal};
-use ro_findings::{Ended, Findings, Split, Verdict};
+use ro_findings::{Ended, Findings, Odd, Split, Verdict};
 use ro_io::Store;
 use ro_journal::{Entry, How};
 use ro_journal_text::{FileJournal, header};
@@ -374,9 +374,19 @@ fn legal(
         verdict: Verdict::Legal {
             steps: audited.steps,
             end: ended(audited.how, split, stood),
+            odd: odd_at(audited.odd, case.entries),
         },
         copies: copies_made(alloc, case.entries, case.faults, differences.as_slice())?,
     })
+}
+
+// The entry at a place, which is the first that is not what the run does next.
+fn odd_at(place: Option<usize>, entries: &[Entry]) -> Option<Odd>
+    ensures { (job : JobSeen) → NextUpTo job entries.now place → TellsNext job entries.now result }
+{
+    let place = place?;
+    let entry = *entries.get(place)?;
+    Some(Odd { place, entry })
 }
 
 // What is found of one that is not, of which this entry is the first that is not allowed.

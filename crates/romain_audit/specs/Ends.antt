@@ -17,7 +17,7 @@ use Rattle.ro_top.specs.declared.done.Told.TheVariants.{Whole, Failed}
 -- the status where a journal was judged and that was told: 0 exactly for a legal one
 abbrev pub status_found : Told → Verdict → ℕ
 status_found Failed verdict = untold
-status_found Whole (Legal steps end) = 0
+status_found Whole (Legal steps end odd) = 0
 status_found Whole (Illegal place entry why) = 236
 
 -- what a sink holds, where it tells, and how often it failed

@@ -93,6 +93,8 @@ enum Of {
     Scattered,
     // `HELLO` as two replicas.
     Hello,
+    // The same with a scrub after each step.
+    HelloScrubbed,
     // `BROKEN` as two replicas.
     Broken,
 }
@@ -100,8 +102,9 @@ enum Of {
 // What must come of a journal.
 #[derive(Clone, Copy)]
 enum Want {
-    // It is legal: how it ends, its steps, its output, and how many views it shows.
-    Legal(Option<How>, u64, &'static str, usize),
+    // It is legal: how it ends, its steps, its output, how many views it shows, and the place of the first entry that is not what
+    // the run does next.
+    Legal(Option<How>, u64, &'static str, usize, Option<usize>),
     // The entry at this place is not allowed.
     Illegal(usize),
 }
@@ -132,21 +135,21 @@ const FRONT: &[&str] = &[
 
 #[rattlefmt::skip]
 const LEGAL: &[Row] = &[
-    Row { title: "nothing", of: Of::Short, lines: &[], want: Want::Legal(None, 0, "", 0) },
-    Row { title: "an exit", of: Of::Short, lines: EXIT, want: Want::Legal(Some(How::Exit(7)), 3, "", 0) },
-    Row { title: "a front of it", of: Of::Short, lines: &["take 0 0 0", "put 0 0 0 2 0", "take 0 1 0"], want: Want::Legal(None, 0, "", 0) },
-    Row { title: "two drivers", of: Of::ShortByTwo, lines: &["take 0 0 0", "take 1 1 0", "put 1 1 0 2 0", "put 0 0 0 2 0", "vote 0 2 0 - served", "end exit 7"], want: Want::Legal(Some(How::Exit(7)), 3, "", 0) },
-    Row { title: "replica 1 first", of: Of::Short, lines: &["take 0 1 0", "put 0 1 0 2 0", "take 0 0 0", "put 0 0 0 2 0", "vote 0 2 0 - served", "end exit 7"], want: Want::Legal(Some(How::Exit(7)), 3, "", 0) },
-    Row { title: "the limit", of: Of::ShortLimited, lines: &["take 0 0 0", "put 0 0 0 2 0", "take 0 1 0", "put 0 1 0 2 0", "end limit 0 3"], want: Want::Legal(Some(How::Limit { steps: 0, next: 3 }), 0, "", 0) },
-    Row { title: "two that differ", of: Of::Differing, lines: &["take 0 0 0", "put 0 0 0 2 0", "take 0 1 0", "put 0 1 0 2 1", "end differ"], want: Want::Legal(Some(How::Differ), 0, "", 2) },
-    Row { title: "one that loses", of: Of::Struck, lines: &["take 0 0 0", "put 0 0 0 2 0", "take 0 1 0", "put 0 1 0 2 1", "take 0 2 0", "put 0 2 0 2 0", "vote 0 2 0 1 served", "end exit 7"], want: Want::Legal(Some(How::Exit(7)), 3, "", 0) },
-    Row { title: "no majority", of: Of::Scattered, lines: &["take 0 0 0", "put 0 0 0 2 0", "take 0 1 0", "put 0 1 0 2 1", "take 0 2 0", "put 0 2 0 2 1", "end no-majority"], want: Want::Legal(Some(How::NoMajority), 0, "", 3) },
-    Row { title: "a scrub", of: Of::Short, lines: &["take 0 0 0", "put 0 0 0 2 0", "take 0 1 0", "put 0 1 0 2 0", "scrub 0 -", "vote 0 2 0 - served", "end exit 7"], want: Want::Legal(Some(How::Exit(7)), 3, "", 0) },
-    Row { title: "one that loses a scrub", of: Of::Struck, lines: &["take 0 0 0", "put 0 0 0 2 0", "take 0 1 0", "put 0 1 0 2 1", "take 0 2 0", "put 0 2 0 2 0", "scrub 0 1", "vote 0 2 0 - served", "end exit 7"], want: Want::Legal(Some(How::Exit(7)), 3, "", 0) },
-    Row { title: "two that differ at a scrub", of: Of::Unread, lines: &["take 0 0 0", "put 0 0 0 2 0", "take 0 1 0", "put 0 1 0 2 1", "end differ"], want: Want::Legal(Some(How::Differ), 0, "", 0) },
-    Row { title: "a difference that no vote sees", of: Of::Unread, lines: &["take 0 0 0", "put 0 0 0 2 0", "take 0 1 0", "put 0 1 0 2 1", "vote 0 2 0 - served", "end exit 7"], want: Want::Legal(Some(How::Exit(7)), 3, "", 0) },
-    Row { title: "a write", of: Of::Hello, lines: FRONT, want: Want::Legal(None, 6, "hello", 0) },
-    Row { title: "a trap", of: Of::Broken, lines: &["take 0 0 0", "put 0 0 0 0 0", "take 0 1 0", "put 0 1 0 0 0", "vote 0 0 0 - trapped", "end trap 3"], want: Want::Legal(Some(How::Trap(TrapCause::NoInstruction)), 1, "", 0) },
+    Row { title: "nothing", of: Of::Short, lines: &[], want: Want::Legal(None, 0, "", 0, None) },
+    Row { title: "an exit", of: Of::Short, lines: EXIT, want: Want::Legal(Some(How::Exit(7)), 3, "", 0, None) },
+    Row { title: "a front of it", of: Of::Short, lines: &["take 0 0 0", "put 0 0 0 2 0", "take 0 1 0"], want: Want::Legal(None, 0, "", 0, None) },
+    Row { title: "two drivers", of: Of::ShortByTwo, lines: &["take 0 0 0", "take 1 1 0", "put 1 1 0 2 0", "put 0 0 0 2 0", "vote 0 2 0 - served", "end exit 7"], want: Want::Legal(Some(How::Exit(7)), 3, "", 0, None) },
+    Row { title: "replica 1 first", of: Of::Short, lines: &["take 0 1 0", "put 0 1 0 2 0", "take 0 0 0", "put 0 0 0 2 0", "vote 0 2 0 - served", "end exit 7"], want: Want::Legal(Some(How::Exit(7)), 3, "", 0, Some(0)) },
+    Row { title: "the limit", of: Of::ShortLimited, lines: &["take 0 0 0", "put 0 0 0 2 0", "take 0 1 0", "put 0 1 0 2 0", "end limit 0 3"], want: Want::Legal(Some(How::Limit { steps: 0, next: 3 }), 0, "", 0, None) },
+    Row { title: "two that differ", of: Of::Differing, lines: &["take 0 0 0", "put 0 0 0 2 0", "take 0 1 0", "put 0 1 0 2 1", "end differ"], want: Want::Legal(Some(How::Differ), 0, "", 2, None) },
+    Row { title: "one that loses", of: Of::Struck, lines: &["take 0 0 0", "put 0 0 0 2 0", "take 0 1 0", "put 0 1 0 2 1", "take 0 2 0", "put 0 2 0 2 0", "vote 0 2 0 1 served", "end exit 7"], want: Want::Legal(Some(How::Exit(7)), 3, "", 0, None) },
+    Row { title: "no majority", of: Of::Scattered, lines: &["take 0 0 0", "put 0 0 0 2 0", "take 0 1 0", "put 0 1 0 2 1", "take 0 2 0", "put 0 2 0 2 1", "end no-majority"], want: Want::Legal(Some(How::NoMajority), 0, "", 3, None) },
+    Row { title: "a scrub", of: Of::Short, lines: &["take 0 0 0", "put 0 0 0 2 0", "take 0 1 0", "put 0 1 0 2 0", "scrub 0 -", "vote 0 2 0 - served", "end exit 7"], want: Want::Legal(Some(How::Exit(7)), 3, "", 0, Some(4)) },
+    Row { title: "one that loses a scrub", of: Of::Struck, lines: &["take 0 0 0", "put 0 0 0 2 0", "take 0 1 0", "put 0 1 0 2 1", "take 0 2 0", "put 0 2 0 2 0", "scrub 0 1", "vote 0 2 0 - served", "end exit 7"], want: Want::Legal(Some(How::Exit(7)), 3, "", 0, Some(6)) },
+    Row { title: "two that differ at a scrub", of: Of::Unread, lines: &["take 0 0 0", "put 0 0 0 2 0", "take 0 1 0", "put 0 1 0 2 1", "end differ"], want: Want::Legal(Some(How::Differ), 0, "", 0, Some(4)) },
+    Row { title: "a difference that no vote sees", of: Of::Unread, lines: &["take 0 0 0", "put 0 0 0 2 0", "take 0 1 0", "put 0 1 0 2 1", "vote 0 2 0 - served", "end exit 7"], want: Want::Legal(Some(How::Exit(7)), 3, "", 0, None) },
+    Row { title: "a write", of: Of::Hello, lines: FRONT, want: Want::Legal(None, 6, "hello", 0, None) },
+    Row { title: "a trap", of: Of::Broken, lines: &["take 0 0 0", "put 0 0 0 0 0", "take 0 1 0", "put 0 1 0 0 0", "vote 0 0 0 - trapped", "end trap 3"], want: Want::Legal(Some(How::Trap(TrapCause::NoInstruction)), 1, "", 0, None) },
 ];
 
 // One entry of `EXIT` changed, dropped, doubled or swapped with the next.
@@ -202,9 +205,11 @@ enum Edit {
 // Ends of a journal that begins with `FRONT`.
 #[rattlefmt::skip]
 const CUT: &[Row] = &[
-    Row { title: "a sink that took nothing", of: Of::Hello, lines: &["end sink 0"], want: Want::Legal(Some(How::Sink(0)), 6, "", 0) },
-    Row { title: "a sink that took four bytes", of: Of::Hello, lines: &["end sink 4"], want: Want::Legal(Some(How::Sink(4)), 6, "hell", 0) },
+    Row { title: "a sink that took nothing", of: Of::Hello, lines: &["end sink 0"], want: Want::Legal(Some(How::Sink(0)), 6, "", 0, None) },
+    Row { title: "a sink that took four bytes", of: Of::Hello, lines: &["end sink 4"], want: Want::Legal(Some(How::Sink(4)), 6, "hell", 0, None) },
     Row { title: "a sink that took all", of: Of::Hello, lines: &["end sink 5"], want: Want::Illegal(5) },
+    Row { title: "a scrub that is due", of: Of::HelloScrubbed, lines: &["take 0 0 0", "put 0 0 0 2 0", "take 0 1 0", "put 0 1 0 2 0", "scrub 0 -", "vote 0 2 0 - served", "end exit 0"], want: Want::Legal(Some(How::Exit(0)), 9, "hello", 0, None) },
+    Row { title: "no scrub where one is due", of: Of::HelloScrubbed, lines: &["take 0 0 0", "put 0 0 0 2 0", "take 0 1 0", "put 0 1 0 2 0", "vote 0 2 0 - served", "end exit 0"], want: Want::Legal(Some(How::Exit(0)), 9, "hello", 0, Some(9)) },
     Row { title: "a sink that fails later", of: Of::Hello, lines: &["take 0 0 0", "end sink 4"], want: Want::Illegal(6) },
 ];
 
@@ -306,13 +311,14 @@ fn follow(
     );
     match audited {
         Ok(audited) => {
-            let Want::Legal(how, steps, output, views) = want else {
+            let Want::Legal(how, steps, output, views, odd) = want else {
                 panic!(rt; "{title} is legal");
             };
             assert_eq!(rt; audited.how, how, "of {title}");
             assert_eq!(rt; audited.steps, steps, "of {title}");
             assert_eq!(rt; audited.output.as_slice(), output.as_bytes(), "of {title}");
             assert_eq!(rt; audited.views.len(), views, "of {title}");
+            assert_eq!(rt; audited.odd, odd, "of {title}");
         }
         Err(AuditError::Illegal { place, .. }) => {
             let Want::Illegal(first) = want else {
@@ -328,16 +334,18 @@ fn follow(
 fn settings_of(of: Of) -> Settings
     ensures { result.mode ≡ Voted }
 {
-    let (replicas, drivers, limit) = match of {
-        Of::ShortByTwo => (2, 2, 100),
-        Of::ShortLimited => (2, 1, 2),
-        Of::Struck | Of::Scattered => (3, 1, 100),
-        _ => (2, 1, 100),
+    let (replicas, drivers, limit, scrub) = match of {
+        Of::ShortByTwo => (2, 2, 100, 0),
+        Of::ShortLimited => (2, 1, 2, 0),
+        Of::Struck | Of::Scattered => (3, 1, 100, 0),
+        Of::HelloScrubbed => (2, 1, 100, 1),
+        _ => (2, 1, 100, 0),
     };
     Settings {
         replicas,
         drivers,
         limit,
+        scrub,
         ..Settings::DEFAULT
     }
 }
@@ -374,7 +382,7 @@ impl Of {
 
 fn image_of(rt: &impl Abort, alloc: Global, of: Of) -> Result<Executable, Fail> {
     let words = match of {
-        Of::Hello => HELLO,
+        Of::Hello | Of::HelloScrubbed => HELLO,
         Of::Broken => BROKEN,
         _ => SHORT,
     };

@@ -38,7 +38,11 @@ fn assert_told(
 fn legal(alloc: Global, end: Option<Ended>) -> Findings {
     Findings {
         entries: 8,
-        verdict: Verdict::Legal { steps: 3, end },
+        verdict: Verdict::Legal {
+            steps: 3,
+            end,
+            odd: None,
+        },
         copies: Vec::new(alloc),
     }
 }
@@ -77,21 +81,21 @@ fn plain_ends(rt: HostRuntime) -> Result<(), Fail> {
         alloc,
         None,
         "The run has not ended.",
-        r#"{"copies":[],"end":null,"entries":8,"steps":3,"verdict":"legal"}"#,
+        r#"{"copies":[],"end":null,"entries":8,"odd":null,"steps":3,"verdict":"legal"}"#,
     )?;
     assert_end(
         &rt,
         alloc,
         Some(Ended::Exit(7)),
         "The program exited with status 7.",
-        r#"{"copies":[],"end":{"how":"exit","status":7},"entries":8,"steps":3,"verdict":"legal"}"#,
+        r#"{"copies":[],"end":{"how":"exit","status":7},"entries":8,"odd":null,"steps":3,"verdict":"legal"}"#,
     )?;
     assert_end(
         &rt,
         alloc,
         Some(Ended::Sink(4)),
         "The output failed, and took 4 bytes of the last write.",
-        r#"{"copies":[],"end":{"how":"sink","taken":4},"entries":8,"steps":3,"verdict":"legal"}"#,
+        r#"{"copies":[],"end":{"how":"sink","taken":4},"entries":8,"odd":null,"steps":3,"verdict":"legal"}"#,
     )?;
     assert_end(
         &rt,
@@ -101,7 +105,7 @@ fn plain_ends(rt: HostRuntime) -> Result<(), Fail> {
             at: None,
         }),
         "The program trapped by cause 2: an instruction is fetched where nothing may be executed.",
-        r#"{"copies":[],"end":{"at":null,"cause":2,"how":"trap"},"entries":8,"steps":3,"verdict":"legal"}"#,
+        r#"{"copies":[],"end":{"at":null,"cause":2,"how":"trap"},"entries":8,"odd":null,"steps":3,"verdict":"legal"}"#,
     )
 }
 
@@ -116,6 +120,7 @@ fn assert_end(
     let sentences = [
         "legal",
         "The journal has 8 entries, and its plan 3 steps.",
+        "Each entry is what the run does next.",
         sentence,
     ];
     assert_told(rt, alloc, &legal(alloc, end), sentences.as_slice(), json)
@@ -154,6 +159,7 @@ fn a_trap(rt: HostRuntime) -> Result<(), Fail> {
     let sentences = [
         "legal",
         "The journal has 8 entries, and its plan 3 steps.",
+        "Each entry is what the run does next.",
         "The program trapped by cause 8: a store where it is not permitted.",
         "Thread 1 stands at pc 00010074 (main+20), with these registers:",
         "ra (x1) 00000001 sp (x2) 00000002 gp (x3) 00000003 tp (x4) 00000004",
@@ -168,7 +174,7 @@ fn a_trap(rt: HostRuntime) -> Result<(), Fail> {
         "It touches the address 000100d8.",
     ];
     let json =
-        r#"{"copies":[],"end":{"at":{"abi_names":["ra","sp","gp","tp","t0","t1","t2","s0","s1","a0","a1","a2","a3","a4","a5","a6","a7","s2","s3","s4","s5","s6","s7","s8","s9","s10","s11","t3","t4","t5","t6"],"function":{"name":"main","offset":32},"instruction":{"mapped":null,"text":"sw zero, 216(s0)","touched":65752,"word":201600035},"pc":65652,"registers":[1,2,3,4,5,6,7,8,9,10,11,12,13,14,15,16,17,18,19,20,21,22,23,24,25,26,27,28,29,30,31],"thread":1},"cause":8,"how":"trap"},"entries":8,"steps":3,"verdict":"legal"}"#;
+        r#"{"copies":[],"end":{"at":{"abi_names":["ra","sp","gp","tp","t0","t1","t2","s0","s1","a0","a1","a2","a3","a4","a5","a6","a7","s2","s3","s4","s5","s6","s7","s8","s9","s10","s11","t3","t4","t5","t6"],"function":{"name":"main","offset":32},"instruction":{"mapped":null,"text":"sw zero, 216(s0)","touched":65752,"word":201600035},"pc":65652,"registers":[1,2,3,4,5,6,7,8,9,10,11,12,13,14,15,16,17,18,19,20,21,22,23,24,25,26,27,28,29,30,31],"thread":1},"cause":8,"how":"trap"},"entries":8,"odd":null,"steps":3,"verdict":"legal"}"#;
     let at = Some(trapped(alloc)?);
     let end = Ended::Trap {
         cause: TrapCause::ForbiddenStore,
@@ -247,6 +253,7 @@ fn waiting_threads(rt: HostRuntime) -> Result<(), Fail> {
     let sentences = [
         "legal",
         "The journal has 8 entries, and its plan 3 steps.",
+        "Each entry is what the run does next.",
         "No thread can go on.",
         "Thread 0 has exited.",
         "Thread 1 waits for the mutex at 00010100 (guard), which thread 4 holds.",
@@ -258,7 +265,7 @@ fn waiting_threads(rt: HostRuntime) -> Result<(), Fail> {
         "Thread 7 is not blocked.",
     ];
     let json =
-        r#"{"copies":[],"end":{"how":"deadlock","threads":[{"state":"exited","thread":0},{"mutex":65792,"mutex_object":{"name":"guard","offset":0},"owner":4,"state":"locks","thread":1},{"mutex":65792,"mutex_object":null,"owner":null,"state":"locks","thread":2},{"condition":65796,"condition_object":{"name":"ready","offset":0},"mutex":65812,"mutex_object":{"name":"queue","offset":12},"owner":null,"signalled":false,"state":"waits","thread":3},{"condition":65796,"condition_object":null,"mutex":65792,"mutex_object":null,"owner":4,"signalled":true,"state":"waits","thread":4},{"other":1,"state":"joins","thread":5},{"state":"blocked","thread":6},{"state":"unblocked","thread":7}]},"entries":8,"steps":3,"verdict":"legal"}"#;
+        r#"{"copies":[],"end":{"how":"deadlock","threads":[{"state":"exited","thread":0},{"mutex":65792,"mutex_object":{"name":"guard","offset":0},"owner":4,"state":"locks","thread":1},{"mutex":65792,"mutex_object":null,"owner":null,"state":"locks","thread":2},{"condition":65796,"condition_object":{"name":"ready","offset":0},"mutex":65812,"mutex_object":{"name":"queue","offset":12},"owner":null,"signalled":false,"state":"waits","thread":3},{"condition":65796,"condition_object":null,"mutex":65792,"mutex_object":null,"owner":4,"signalled":true,"state":"waits","thread":4},{"other":1,"state":"joins","thread":5},{"state":"blocked","thread":6},{"state":"unblocked","thread":7}]},"entries":8,"odd":null,"steps":3,"verdict":"legal"}"#;
     let end = Ended::Deadlock(waiting(alloc)?);
     assert_told(
         &rt,
@@ -310,6 +317,7 @@ fn standing_threads(rt: HostRuntime) -> Result<(), Fail> {
     let sentences = [
         "legal",
         "The journal has 8 entries, and its plan 3 steps.",
+        "Each entry is what the run does next.",
         "The plan has 3 steps, and 6 more would pass the limit.",
         "Thread 0 stands at pc 00010054 (main), at a call.",
         "Thread 1 stands at pc 00010054 (main), at a trap.",
@@ -318,7 +326,7 @@ fn standing_threads(rt: HostRuntime) -> Result<(), Fail> {
         "Thread 4 does not stand still, or has exited.",
     ];
     let json =
-        r#"{"copies":[],"end":{"how":"limit","next":6,"steps":3,"threads":[{"function":{"name":"main","offset":0},"pc":65620,"stop":"call","thread":0},{"function":{"name":"main","offset":0},"pc":65620,"stop":"trap","thread":1},{"function":{"name":"main","offset":0},"pc":65620,"stop":"page_fault","thread":2},{"function":{"name":"main","offset":0},"pc":65620,"stop":"watchdog","thread":3},{"function":null,"pc":null,"stop":null,"thread":4}]},"entries":8,"steps":3,"verdict":"legal"}"#;
+        r#"{"copies":[],"end":{"how":"limit","next":6,"steps":3,"threads":[{"function":{"name":"main","offset":0},"pc":65620,"stop":"call","thread":0},{"function":{"name":"main","offset":0},"pc":65620,"stop":"trap","thread":1},{"function":{"name":"main","offset":0},"pc":65620,"stop":"page_fault","thread":2},{"function":{"name":"main","offset":0},"pc":65620,"stop":"watchdog","thread":3},{"function":null,"pc":null,"stop":null,"thread":4}]},"entries":8,"odd":null,"steps":3,"verdict":"legal"}"#;
     let end = Ended::Limit {
         steps: 3,
         next: 6,
@@ -361,6 +369,7 @@ fn differing_views(rt: HostRuntime) -> Result<(), Fail> {
     let sentences = [
         "legal",
         "The journal has 8 entries, and its plan 3 steps.",
+        "Each entry is what the run does next.",
         "The replicas differ.",
         "pc: 00010054 (main) 00010058",
         "instructions since the last vote: 2 3",
@@ -369,7 +378,7 @@ fn differing_views(rt: HostRuntime) -> Result<(), Fail> {
         "what is written or found differs, of so many bytes: 5 0",
     ];
     let json =
-        r#"{"copies":[],"end":{"fields":[{"abi_name":null,"part":"pc","values":[{"function":{"name":"main","offset":0},"pc":65620},{"function":null,"pc":65624}]},{"abi_name":null,"part":"since","values":[2,3]},{"abi_name":"a0","part":"x10","values":[7,255]},{"abi_name":null,"part":"stop","values":["call","watchdog"]},{"abi_name":null,"part":"payload","values":[5,0]}],"how":"differ"},"entries":8,"steps":3,"verdict":"legal"}"#;
+        r#"{"copies":[],"end":{"fields":[{"abi_name":null,"part":"pc","values":[{"function":{"name":"main","offset":0},"pc":65620},{"function":null,"pc":65624}]},{"abi_name":null,"part":"since","values":[2,3]},{"abi_name":"a0","part":"x10","values":[7,255]},{"abi_name":null,"part":"stop","values":["call","watchdog"]},{"abi_name":null,"part":"payload","values":[5,0]}],"how":"differ"},"entries":8,"odd":null,"steps":3,"verdict":"legal"}"#;
     let end = Ended::Differ(Split::AtVote(fields(alloc)?));
     assert_told(
         &rt,
@@ -553,12 +562,13 @@ fn copies(rt: HostRuntime) -> Result<(), Fail> {
     let sentences = [
         "legal",
         "The journal has 15 entries, and its plan 9 steps.",
+        "Each entry is what the run does next.",
         "The program exited with status 0.",
         "At entry 6 replica 1 was overwritten at a vote on thread 0: t0 (x5), a0 (x10), what it stands at and what is written or found differed. Undone: 1 0 5 reg 10 1, struck 0 instructions before; 1 0 1 reg 5 0, struck 4 instructions before.",
         "At entry 13 replica 2 was overwritten at a vote on thread 0: a0 (x10) and what it stands at differed. Undone: 2 0 6 reg 10 0, struck 1 instruction before.",
     ];
     let json =
-        r#"{"copies":[{"abi_names":["t0","a0",null,null],"differed":["x5","x10","stop","payload"],"place":6,"replica":1,"thread":0,"undone":[{"before":0,"fault":"1 0 5 reg 10 1"},{"before":4,"fault":"1 0 1 reg 5 0"}]},{"abi_names":["a0",null],"differed":["x10","stop"],"place":13,"replica":2,"thread":0,"undone":[{"before":1,"fault":"2 0 6 reg 10 0"}]}],"end":{"how":"exit","status":0},"entries":15,"steps":9,"verdict":"legal"}"#;
+        r#"{"copies":[{"abi_names":["t0","a0",null,null],"differed":["x5","x10","stop","payload"],"place":6,"replica":1,"thread":0,"undone":[{"before":0,"fault":"1 0 5 reg 10 1"},{"before":4,"fault":"1 0 1 reg 5 0"}]},{"abi_names":["a0",null],"differed":["x10","stop"],"place":13,"replica":2,"thread":0,"undone":[{"before":1,"fault":"2 0 6 reg 10 0"}]}],"end":{"how":"exit","status":0},"entries":15,"odd":null,"steps":9,"verdict":"legal"}"#;
     assert_found(
         &rt,
         alloc,
@@ -572,11 +582,12 @@ fn copies(rt: HostRuntime) -> Result<(), Fail> {
     let sentences = [
         "legal",
         "The journal has 8 entries, and its plan 3 steps.",
+        "Each entry is what the run does next.",
         "The program exited with status 6.",
         "At entry 6 replica 2 was overwritten at a vote on thread 0: a0 (x10) and what it stands at differed. No fault of the list in that replica explains it.",
     ];
     let json =
-        r#"{"copies":[{"abi_names":["a0",null],"differed":["x10","stop"],"place":6,"replica":2,"thread":0,"undone":[]}],"end":{"how":"exit","status":6},"entries":8,"steps":3,"verdict":"legal"}"#;
+        r#"{"copies":[{"abi_names":["a0",null],"differed":["x10","stop"],"place":6,"replica":2,"thread":0,"undone":[]}],"end":{"how":"exit","status":6},"entries":8,"odd":null,"steps":3,"verdict":"legal"}"#;
     assert_found(&rt, alloc, SHORT, faults, ALIKE, sentences.as_slice(), json)
 }
 
@@ -616,11 +627,12 @@ fn a_copy_by_a_scrub(rt: HostRuntime) -> Result<(), Fail> {
     let sentences = [
         "legal",
         "The journal has 16 entries, and its plan 9 steps.",
+        "Entry 6 is the first that is not what the run does next: scrub 0 1",
         "The program exited with status 0.",
         "At entry 6 replica 1 was overwritten at a scrub: t0 (x5) and t1 (x6) of thread 0, the page 00010000 differed. Undone: 1 0 1 reg 5 0, struck 4 instructions before; 1 0 2 reg 6 4, struck 3 instructions before; 1 0 3 mem 65661 0, struck 2 instructions before.",
     ];
     let json =
-        r#"{"copies":[{"differed":{"pages":[65536],"threads":[{"abi_names":["t0","t1"],"parts":["x5","x6"],"thread":0}]},"place":6,"replica":1,"thread":null,"undone":[{"before":4,"fault":"1 0 1 reg 5 0"},{"before":3,"fault":"1 0 2 reg 6 4"},{"before":2,"fault":"1 0 3 mem 65661 0"}]}],"end":{"how":"exit","status":0},"entries":16,"steps":9,"verdict":"legal"}"#;
+        r#"{"copies":[{"differed":{"pages":[65536],"threads":[{"abi_names":["t0","t1"],"parts":["x5","x6"],"thread":0}]},"place":6,"replica":1,"thread":null,"undone":[{"before":4,"fault":"1 0 1 reg 5 0"},{"before":3,"fault":"1 0 2 reg 6 4"},{"before":2,"fault":"1 0 3 mem 65661 0"}]}],"end":{"how":"exit","status":0},"entries":16,"odd":{"entry":"scrub 0 1","place":6},"steps":9,"verdict":"legal"}"#;
     assert_found(
         &rt,
         rt.alloc(),
@@ -638,6 +650,7 @@ fn an_end_in_a_scrubs_place(rt: HostRuntime) -> Result<(), Fail> {
     let sentences = [
         "legal",
         "The journal has 7 entries, and its plan 0 steps.",
+        "Entry 6 is the first that is not what the run does next: end no-majority",
         "No more than half of the replicas agree.",
         "They were compared whole, at a scrub.",
         "Of thread 0:",
@@ -646,7 +659,7 @@ fn an_end_in_a_scrubs_place(rt: HostRuntime) -> Result<(), Fail> {
         "the bytes of the page 00010000 differ",
     ];
     let json =
-        r#"{"copies":[],"end":{"how":"no-majority","pages":[65536],"threads":[{"fields":[{"abi_name":"t0","part":"x5","values":[0,1,0]},{"abi_name":"t1","part":"x6","values":[0,16,0]}],"thread":0}]},"entries":7,"steps":0,"verdict":"legal"}"#;
+        r#"{"copies":[],"end":{"how":"no-majority","pages":[65536],"threads":[{"fields":[{"abi_name":"t0","part":"x5","values":[0,1,0]},{"abi_name":"t1","part":"x6","values":[0,16,0]}],"thread":0}]},"entries":7,"odd":{"entry":"end no-majority","place":6},"steps":0,"verdict":"legal"}"#;
     assert_found(
         &rt,
         rt.alloc(),
@@ -677,6 +690,7 @@ fn the_instruction_that_trapped(rt: HostRuntime) -> Result<(), Fail> {
     let sentences = [
         "legal",
         "The journal has 8 entries, and its plan 1 steps.",
+        "Each entry is what the run does next.",
         "The program trapped by cause 6: a load where it is not permitted.",
         "Thread 0 stands at pc 00010054, with these registers:",
         "ra (x1) 00000000 sp (x2) 7000fff0 gp (x3) 00000000 tp (x4) 00000000",
@@ -691,7 +705,7 @@ fn the_instruction_that_trapped(rt: HostRuntime) -> Result<(), Fail> {
         "It touches the address 00000000.",
     ];
     let json =
-        r#"{"copies":[],"end":{"at":{"abi_names":["ra","sp","gp","tp","t0","t1","t2","s0","s1","a0","a1","a2","a3","a4","a5","a6","a7","s2","s3","s4","s5","s6","s7","s8","s9","s10","s11","t3","t4","t5","t6"],"function":null,"instruction":{"mapped":null,"text":"lw a0, 0(zero)","touched":0,"word":9475},"pc":65620,"registers":[0,1879113712,0,0,0,0,0,0,0,0,0,0,0,0,0,0,0,0,0,0,0,0,0,0,0,0,0,0,0,0,0],"thread":0},"cause":6,"how":"trap"},"entries":8,"steps":1,"verdict":"legal"}"#;
+        r#"{"copies":[],"end":{"at":{"abi_names":["ra","sp","gp","tp","t0","t1","t2","s0","s1","a0","a1","a2","a3","a4","a5","a6","a7","s2","s3","s4","s5","s6","s7","s8","s9","s10","s11","t3","t4","t5","t6"],"function":null,"instruction":{"mapped":null,"text":"lw a0, 0(zero)","touched":0,"word":9475},"pc":65620,"registers":[0,1879113712,0,0,0,0,0,0,0,0,0,0,0,0,0,0,0,0,0,0,0,0,0,0,0,0,0,0,0,0,0],"thread":0},"cause":6,"how":"trap"},"entries":8,"odd":null,"steps":1,"verdict":"legal"}"#;
     assert_found(
         &rt,
         rt.alloc(),
@@ -761,11 +775,12 @@ fn a_thread_that_waits_for_ever(rt: HostRuntime) -> Result<(), Fail> {
     let sentences = [
         "legal",
         "The journal has 22 entries, and its plan 11 steps.",
+        "Each entry is what the run does next.",
         "No thread can go on.",
         "Thread 0 waits for the condition at 00011004 (queue+4), not signalled, to hold the mutex at 00011000 (queue).",
     ];
     let json =
-        r#"{"copies":[],"end":{"how":"deadlock","threads":[{"condition":69636,"condition_object":{"name":"queue","offset":4},"mutex":69632,"mutex_object":{"name":"queue","offset":0},"owner":null,"signalled":false,"state":"waits","thread":0}]},"entries":22,"steps":11,"verdict":"legal"}"#;
+        r#"{"copies":[],"end":{"how":"deadlock","threads":[{"condition":69636,"condition_object":{"name":"queue","offset":4},"mutex":69632,"mutex_object":{"name":"queue","offset":0},"owner":null,"signalled":false,"state":"waits","thread":0}]},"entries":22,"odd":null,"steps":11,"verdict":"legal"}"#;
     let mut file = image_bytes(rt.alloc(), &SIGNALS_THEN_WAITS, 5, &NAMES)?;
     assert!(rt; TYPE < file.len());
     file[SIZE] = 8;
@@ -845,12 +860,13 @@ fn a_thread_that_waits_at_its_lock(rt: HostRuntime) -> Result<(), Fail> {
     let sentences = [
         "legal",
         "The journal has 28 entries, and its plan 17 steps.",
+        "Each entry is what the run does next.",
         "No thread can go on.",
         "Thread 0 has exited.",
         "Thread 1 waits for the mutex at 00011000, which thread 0 holds.",
     ];
     let json =
-        r#"{"copies":[],"end":{"how":"deadlock","threads":[{"state":"exited","thread":0},{"mutex":69632,"mutex_object":null,"owner":0,"state":"locks","thread":1}]},"entries":28,"steps":17,"verdict":"legal"}"#;
+        r#"{"copies":[],"end":{"how":"deadlock","threads":[{"state":"exited","thread":0},{"mutex":69632,"mutex_object":null,"owner":0,"state":"locks","thread":1}]},"entries":28,"odd":null,"steps":17,"verdict":"legal"}"#;
     let file = image_bytes(rt.alloc(), &LOCKS_AND_ENDS, 5, &LOCKED_NAMES)?;
     assert_found_in(
         &rt,
@@ -858,6 +874,62 @@ fn a_thread_that_waits_at_its_lock(rt: HostRuntime) -> Result<(), Fail> {
         file.as_slice(),
         "",
         WAITS_AT_ITS_LOCK,
+        sentences.as_slice(),
+        json,
+    )
+}
+
+// The same journal, but for a lease that is taken before a vote that comes next.
+const TAKEN_BEFORE_THE_VOTE: &str = "romain 2 coop
+take 0 0 0
+put 0 0 0 3 0
+take 0 1 0
+put 0 1 0 3 0
+take 0 2 0
+put 0 2 0 3 0
+vote 0 3 0 - served
+take 0 0 0
+put 0 0 0 6 0
+take 0 1 0
+put 0 1 0 6 0
+take 0 2 0
+put 0 2 0 6 0
+vote 0 6 0 - served
+take 0 0 0
+put 0 0 0 2 0
+take 0 0 1
+part 0 0 1 3 0
+take 0 1 0
+put 0 1 0 2 0
+take 0 1 1
+part 0 1 1 3 0
+take 0 2 0
+put 0 2 0 2 0
+take 0 2 1
+part 0 2 1 3 0
+vote 0 2 0 - served
+end deadlock
+";
+
+#[test]
+fn a_lease_that_is_taken_before_a_vote(rt: HostRuntime) -> Result<(), Fail> {
+    let sentences = [
+        "legal",
+        "The journal has 28 entries, and its plan 17 steps.",
+        "Entry 24 is the first that is not what the run does next: take 0 2 1",
+        "No thread can go on.",
+        "Thread 0 has exited.",
+        "Thread 1 waits for the mutex at 00011000, which thread 0 holds.",
+    ];
+    let json =
+        r#"{"copies":[],"end":{"how":"deadlock","threads":[{"state":"exited","thread":0},{"mutex":69632,"mutex_object":null,"owner":0,"state":"locks","thread":1}]},"entries":28,"odd":{"entry":"take 0 2 1","place":24},"steps":17,"verdict":"legal"}"#;
+    let file = image_bytes(rt.alloc(), &LOCKS_AND_ENDS, 5, &LOCKED_NAMES)?;
+    assert_found_in(
+        &rt,
+        rt.alloc(),
+        file.as_slice(),
+        "",
+        TAKEN_BEFORE_THE_VOTE,
         sentences.as_slice(),
         json,
     )

@@ -55,14 +55,16 @@ fn each_trap_is_told(rt: HostRuntime) -> Result<(), Fail> {
             verdict: Verdict::Legal {
                 steps: 1,
                 end: Some(end),
+                odd: None,
             },
             copies: Vec::new(rt.alloc()),
         };
         let told = findings.sentences(rt.alloc())?;
-        assert_eq!(rt; told.lines().count(), 3);
+        assert_eq!(rt; told.lines().count(), 4);
         for (line, want) in told.lines().zip([
             "legal",
             "The journal has 8 entries, and its plan 1 steps.",
+            "Each entry is what the run does next.",
             *sentence,
         ]) {
             assert_eq!(rt; line, want);

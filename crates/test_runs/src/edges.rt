@@ -1,13 +1,14 @@
-//! Rows: a command over a store and sinks in memory, and what it comes to.
+//! What no script can ask of the program: what the call gives besides status, output and report, and the gate that leases pass.
 ghost use Rattle.std.specs.Prelude.{◌≡◌, IfOk};
 
+use crate::guests::{GUESTS, HELLO, READ_EXECUTE};
 use ro_event::{Call, Stop, Which};
 use ro_files::Job;
 use ro_image::read_executable;
 use ro_io::{Act, Gate, MemSink, MemStore, OpenGate, Place};
 use ro_journal::{Entry, How};
 use ro_make::image_bytes;
-use ro_report::{Answer, ExeError, FileKind, JournalCode};
+use ro_report::{Answer, FileKind, JournalCode};
 use ro_settings::Settings;
 use ro_top::{Done, romain, run_job, without_words};
 use std::alloc::Global;
@@ -21,23 +22,16 @@ use std::thread::{self, Threads};
 #[test]
 fn kept_views(rt: HostRuntime) -> Result<(), Fail> {
     let cases: [(&[&str], &[u32]); 3] = [
-        (&["run", "seven"], &[]),
+        (&["run", "exit_7"], &[]),
         (
-            &["run", "seven", "--faults", "one", "--replicas", "2"],
+            &["run", "exit_7", "--faults", "one", "--replicas", "2"],
             &[7, 6],
         ),
-        (&["run", "seven", "--faults", "unlike"], &[6, 5, 7]),
+        (&["run", "exit_7", "--faults", "unlike"], &[6, 5, 7]),
     ];
     for (command, statuses) in cases {
         let mut store = store(&rt, rt.alloc())?;
-        let Came { done, report: _ } = do_command(
-            &rt,
-            rt.alloc(),
-            command,
-            &mut store,
-            &[],
-            &OpenGate,
-        )?;
+        let Came { done, report: _ } = do_command(&rt, rt.alloc(), command, &mut store, &OpenGate)?;
         assert_eq!(rt; done.views.len(), statuses.len(), "of {command:?}");
         for (view, status) in done.views.iter().zip(statuses) {
             assert_eq!(rt; view.registers()[9], *status, "of {command:?}");
@@ -50,7 +44,7 @@ fn kept_views(rt: HostRuntime) -> Result<(), Fail> {
 // A program that is at hand, and no store.
 #[test]
 fn job_at_hand(rt: HostRuntime) -> Result<(), Fail> {
-    let file = image_bytes(rt.alloc(), &HELLO, 5, &[])?;
+    let file = image_bytes(rt.alloc(), &HELLO, READ_EXECUTE, &[])?;
     let image = read_executable(rt.alloc(), file.as_slice())?;
     let job = Job {
         image,
@@ -93,324 +87,11 @@ fn exit_call(status: u32) -> Stop {
     })
 }
 
-/// The journal of a run of `seven`, as it is reported.
-const SEVEN: &str = "romain 2
-take 0 0 0
-put 0 0 0 2 0
-take 0 1 0
-put 0 1 0 2 0
-take 0 2 0
-put 0 2 0 2 0
-vote 0 2 0 - served
-end exit 7
-votes 1 copies 0 struck 0 steps 3 bytes 0
-answer exit 7
-";
-
-/// A command that follows a plan, and what it comes to.
-struct Plan {
-    words: &'static [&'static str],
-    acts: &'static [Act],
-    answer: Answer,
-    status: u8,
-    held: &'static str,
-    reported: &'static str,
-}
-
-const PLANS: &[Plan] = &[
-    Plan {
-        words: &["plain", "seven", "--plan", "journal"],
-        acts: &[],
-        answer: Answer::Exit(7),
-        status: 7,
-        held: "",
-        reported: "steps 3 bytes 0\nanswer exit 7\n",
-    },
-    // The exit was not served.
-    Plan {
-        words: &["plain", "seven", "--plan", "watched"],
-        acts: &[],
-        answer: Answer::Unended,
-        status: 239,
-        held: "",
-        reported: "steps 2 bytes 0\nanswer unended\n",
-    },
-    // The third step ended the program.
-    Plan {
-        words: &["plain", "--plan=four", "seven"],
-        acts: &[],
-        answer: Answer::NoStep { place: 3 },
-        status: 254,
-        held: "",
-        reported: "answer no-step 3\n",
-    },
-    Plan {
-        words: &["plain", "seven", "--plan", "header"],
-        acts: &[],
-        answer: Answer::BadPlan {
-            line: 1,
-            code: JournalCode::Form,
-        },
-        status: 253,
-        held: "",
-        reported: "answer plan 1 1\n",
-    },
-    Plan {
-        words: &["plain", "seven", "--plan", "range"],
-        acts: &[],
-        answer: Answer::BadPlan {
-            line: 2,
-            code: JournalCode::Range,
-        },
-        status: 253,
-        held: "",
-        reported: "answer plan 2 2\n",
-    },
-    Plan {
-        words: &["plain", "seven", "--plan", "empty"],
-        acts: &[],
-        answer: Answer::Unended,
-        status: 239,
-        held: "",
-        reported: "steps 0 bytes 0\nanswer unended\n",
-    },
-    Plan {
-        words: &["plain", "seven", "--plan", "nothere"],
-        acts: &[],
-        answer: Answer::StoreFailed,
-        status: 246,
-        held: "",
-        reported: "answer store\n",
-    },
-    Plan {
-        words: &["plain", "seven"],
-        acts: &[],
-        answer: Answer::BadWords,
-        status: 249,
-        held: "",
-        reported: "answer words\n",
-    },
-    Plan {
-        words: &["plain", "journal", "--plan", "header"],
-        acts: &[],
-        answer: Answer::BadExe(ExeError::Magic),
-        status: 247,
-        held: "",
-        reported: "answer exe 2\n",
-    },
-    Plan {
-        words: &["plain", "hello", "--plan", "hello-plan"],
-        acts: &[],
-        answer: Answer::Exit(0),
-        status: 0,
-        held: "hello",
-        reported: "steps 9 bytes 5\nanswer exit 0\n",
-    },
-    // What was written before the plan's end stays.
-    Plan {
-        words: &["plain", "hello", "--plan", "hello-late"],
-        acts: &[Act::Take(1)],
-        answer: Answer::NoStep { place: 9 },
-        status: 254,
-        held: "hello",
-        reported: "answer no-step 9\n",
-    },
-    // The input is read.
-    Plan {
-        words: &["plain", "read", "--plan", "read-plan", "--input", "header"],
-        acts: &[],
-        answer: Answer::Exit(4),
-        status: 4,
-        held: "",
-        reported: "steps 7 bytes 0\nanswer exit 4\n",
-    },
-    // Two threads store to one page, each a byte of its own.
-    Plan {
-        words: &["races", "page", "--plan", "page-plan"],
-        acts: &[],
-        answer: Answer::NoRace,
-        status: 0,
-        held: "",
-        reported: "answer no-race\n",
-    },
-    // Both store the same byte.
-    Plan {
-        words: &["races", "--plan=page-plan", "byte"],
-        acts: &[],
-        answer: Answer::Race {
-            i: 8,
-            j: 13,
-            byte: 69632,
-        },
-        status: 237,
-        held: "",
-        reported: "answer race 8 13 69632\n",
-    },
-    // The step behind the exit does not exist, and is told before the race.
-    Plan {
-        words: &["races", "byte", "--plan", "page-late"],
-        acts: &[],
-        answer: Answer::NoStep { place: 21 },
-        status: 254,
-        held: "",
-        reported: "answer no-step 21\n",
-    },
-    // The program has not ended.
-    Plan {
-        words: &["races", "seven", "--plan", "watched"],
-        acts: &[],
-        answer: Answer::NoRace,
-        status: 0,
-        held: "",
-        reported: "answer no-race\n",
-    },
-    // What the program writes goes nowhere, and its input is read.
-    Plan {
-        words: &["races", "hello", "--plan", "hello-plan"],
-        acts: &[],
-        answer: Answer::NoRace,
-        status: 0,
-        held: "",
-        reported: "answer no-race\n",
-    },
-    Plan {
-        words: &["races", "read", "--plan", "read-plan", "--input", "header"],
-        acts: &[],
-        answer: Answer::NoRace,
-        status: 0,
-        held: "",
-        reported: "answer no-race\n",
-    },
-    Plan {
-        words: &["races", "seven", "--plan", "range"],
-        acts: &[],
-        answer: Answer::BadPlan {
-            line: 2,
-            code: JournalCode::Range,
-        },
-        status: 253,
-        held: "",
-        reported: "answer plan 2 2\n",
-    },
-    Plan {
-        words: &["races", "seven", "--plan", "nothere"],
-        acts: &[],
-        answer: Answer::StoreFailed,
-        status: 246,
-        held: "",
-        reported: "answer store\n",
-    },
-    Plan {
-        words: &["races", "seven"],
-        acts: &[],
-        answer: Answer::BadWords,
-        status: 249,
-        held: "",
-        reported: "answer words\n",
-    },
-];
-
-#[test]
-fn plans(rt: HostRuntime) -> Result<(), Fail> {
-    for row in PLANS {
-        assert_plan(&rt, rt.alloc(), row)?;
-    }
-    Ok(())
-}
-
-fn assert_plan<R: Threads + Wait + Abort + Sync>(
-    rt: &R,
-    alloc: Global,
-    row: &Plan,
-) -> Result<(), Fail> {
-    let mut store = store(rt, alloc)?;
-    let Came { done, report } = do_command(rt, alloc, row.words, &mut store, row.acts, &OpenGate)?;
-    assert_eq!(rt; done.answer, row.answer, "of {:?}", row.words);
-    assert_eq!(rt; done.status(), row.status, "of {:?}", row.words);
-    assert_eq!(rt; done.out.bytes(), row.held.as_bytes(), "of {:?}", row.words);
-    assert_eq!(rt;
-        report.bytes(),
-        row.reported.as_bytes(),
-        "of {:?}",
-        row.words
-    );
-    assert!(rt; done.journal.is_empty() && done.views.is_empty());
-    Ok(())
-}
-
-/// Commands that write a text of their own.
-const TOLD: &[Plan] = &[
-    Plan {
-        words: &["inject", "42", "1", "seven"],
-        acts: &[],
-        answer: Answer::Exit(0),
-        status: 0,
-        held: "0 1 5824 pc 11\n",
-        reported: "answer exit 0\n",
-    },
-    Plan {
-        words: &["inject", "42", "1", "seven", "--replica", "2"],
-        acts: &[Act::Take(1), Act::Take(6)],
-        answer: Answer::Exit(0),
-        status: 0,
-        held: "2 1 5824 pc 11\n",
-        reported: "answer exit 0\n",
-    },
-    Plan {
-        words: &["inject", "42", "0", "seven"],
-        acts: &[],
-        answer: Answer::BadWords,
-        status: 249,
-        held: "",
-        reported: "answer words\n",
-    },
-    Plan {
-        words: &["inject", "42", "1", "one"],
-        acts: &[],
-        answer: Answer::BadExe(ExeError::Short),
-        status: 247,
-        held: "",
-        reported: "answer exe 1\n",
-    },
-    Plan {
-        words: &["inject", "42", "1", "nothere"],
-        acts: &[],
-        answer: Answer::StoreFailed,
-        status: 246,
-        held: "",
-        reported: "answer store\n",
-    },
-    Plan {
-        words: &["bench", "1", "0"],
-        acts: &[],
-        answer: Answer::BadWords,
-        status: 249,
-        held: "",
-        reported: "answer words\n",
-    },
-];
-
-#[test]
-fn drawn_texts(rt: HostRuntime) -> Result<(), Fail> {
-    for row in TOLD {
-        assert_plan(&rt, rt.alloc(), row)?;
-    }
-    Ok(())
-}
-
-// A made executable.
+// The journal of a made program, which no report has.
 #[test]
 fn made(rt: HostRuntime) -> Result<(), Fail> {
     let mut store = store(&rt, rt.alloc())?;
-    let done = do_command(
-        &rt,
-        rt.alloc(),
-        &["bench", "1", "1"],
-        &mut store,
-        &[],
-        &OpenGate,
-    )?
-    .done;
+    let done = do_command(&rt, rt.alloc(), &["bench", "1", "1"], &mut store, &OpenGate)?.done;
     assert_eq!(rt; done.answer, Answer::Exit(0));
     assert_eq!(rt;
         done.out.bytes(),
@@ -421,50 +102,14 @@ fn made(rt: HostRuntime) -> Result<(), Fail> {
     Ok(())
 }
 
-// A plan of more than 10^9 steps is neither run nor checked.
-#[test]
-fn longest_plan(rt: HostRuntime) -> Result<(), Fail> {
-    let mut plan = Vec::from_slice(rt.alloc(), b"romain 1\n")?;
-    for _ in 0..1_001 {
-        plan.extend_from_slice(b"vote 0 1000000 0 - watch\n")?;
-    }
-    for command in ["plain", "races"] {
-        assert_too_long(&rt, rt.alloc(), command, plan.as_slice())?;
-    }
-    Ok(())
-}
-
-fn assert_too_long<R: Threads + Wait + Abort + Sync>(
-    rt: &R,
-    alloc: Global,
-    command: &str,
-    plan: &[u8],
-) -> Result<(), Fail> {
-    let mut store = store(rt, alloc)?;
-    store.put("long", plan)?;
-    let words = [command, "seven", "--plan", "long"];
-    let Came { done, report } = do_command(rt, alloc, &words, &mut store, &[], &OpenGate)?;
-    let limit = Answer::Limit {
-        steps: 1_000_000_000,
-        next: 1_000_000,
-    };
-    assert_eq!(rt; done.answer, limit);
-    assert_eq!(rt; done.status(), 244);
-    assert_eq!(rt;
-        report.bytes(),
-        b"answer limit 1000000000 1000000\n".as_slice()
-    );
-    Ok(())
-}
-
-// Files of as many bytes as they may have, and of one more.
+// Files of as many bytes as they may have, and of one more: the answer says which of them is too long.
 #[test]
 fn long_files(rt: HostRuntime) -> Result<(), Fail> {
     for (command, size, answer) in LONG {
         let mut store = store(&rt, rt.alloc())?;
         let long = vec![in rt.alloc(); 0_u8; *size]?;
         store.put("long", long.as_slice())?;
-        let done = do_command(&rt, rt.alloc(), command, &mut store, &[], &OpenGate)?.done;
+        let done = do_command(&rt, rt.alloc(), command, &mut store, &OpenGate)?.done;
         assert_eq!(rt; done.answer, *answer, "of {command:?}");
     }
     Ok(())
@@ -473,23 +118,23 @@ fn long_files(rt: HostRuntime) -> Result<(), Fail> {
 // A command, how many bytes its file `long` has, and the answer.
 const LONG: &[(&[&str], usize, Answer)] = &[
     (
-        &["run", "read", "--input", "long"],
+        &["run", "reads_4", "--input", "long"],
         0x10_0000,
         Answer::Exit(4),
     ),
     (
-        &["run", "read", "--input", "long"],
+        &["run", "reads_4", "--input", "long"],
         0x10_0001,
         Answer::TooLong(FileKind::Input),
     ),
     (
-        &["run", "seven", "--faults", "long"],
+        &["run", "exit_7", "--faults", "long"],
         0x1_0001,
         Answer::TooLong(FileKind::Faults),
     ),
     (&["run", "long"], 0x80_0001, Answer::TooLong(FileKind::Exe)),
     (
-        &["plain", "seven", "--plan", "long"],
+        &["plain", "exit_7", "--plan", "long"],
         0x100_0000,
         Answer::BadPlan {
             line: 1,
@@ -497,7 +142,7 @@ const LONG: &[(&[&str], usize, Answer)] = &[
         },
     ),
     (
-        &["plain", "seven", "--plan", "long"],
+        &["plain", "exit_7", "--plan", "long"],
         0x100_0001,
         Answer::TooLong(FileKind::Plan),
     ),
@@ -510,18 +155,17 @@ struct Came {
     report: MemSink,
 }
 
-// Runs a command over a store, with an output that takes what the acts say.
+// Runs a command over a store, with sinks that take all.
 fn do_command<R: Threads + Wait + Sync, G: Gate + Sync>(
     rt: &R,
     alloc: Global,
     command: &[&str],
     store: &mut MemStore,
-    acts: &[Act],
     gate: &G,
 ) -> Result<Came, Fail> {
     let words = words_of(alloc, command)?;
     let mut report = sink(alloc, &[])?;
-    let out = sink(alloc, acts)?;
+    let out = sink(alloc, &[])?;
     let done = romain(rt, alloc, words.as_slice(), store, out, &mut report, gate);
     Ok(Came { done, report })
 }
@@ -542,157 +186,18 @@ fn sink(alloc: Global, acts: &[Act]) -> Result<MemSink, Fail>
     Ok(MemSink::new(alloc, 1_000, Vec::from_slice(alloc, acts)?)?)
 }
 
-/// It writes `hello` and exits with 0.
-const HELLO: [u32; 11] = [
-    0x0010_0513,
-    0x0001_05B7,
-    0x0785_8593,
-    0x0050_0613,
-    0x0400_0893,
-    0x0000_0073,
-    0x0000_0513,
-    0x05D0_0893,
-    0x0000_0073,
-    0x6C6C_6568,
-    0x0000_006F,
-];
-
-/// Executables, by their words.
-const GUESTS: &[(&str, &[u32])] = &[
-    // ADDI a0, zero, 7, and an exit
-    ("seven", &[0x0070_0513, 0x05D0_0893, 0x0000_0073]),
-    ("hello", &HELLO),
-    // it reads four bytes into the heap and exits with how many came
-    (
-        "read",
-        &[
-            0x0000_0513,
-            0x0001_15B7,
-            0x0040_0613,
-            0x03F0_0893,
-            0x0000_0073,
-            0x05D0_0893,
-            0x0000_0073,
-        ],
-    ),
-];
-
-/// Two threads that store to one page, side by side; thread 0 joins the other at the end.
-const PAGE: [u32; 22] = [
-    0x0001_0437,
-    0x0A84_0513,
-    0x0000_0593,
-    0x08C4_0613,
-    0x0000_0693,
-    0x0340_00EF,
-    0x0001_12B7,
-    0x0002_8023,
-    0x0010_0513,
-    0x0000_0593,
-    0x0240_00EF,
-    0x0000_0513,
-    0x05D0_0893,
-    0x0000_0073,
-    0x0001_12B7,
-    0x0002_80A3,
-    0x0000_0513,
-    0x00C0_00EF,
-    0x0000_8067,
-    0x0000_8067,
-    0x0000_8067,
-    0x0000_0000,
-];
-
-/// Thread 1 stores to thread 0's byte: SB x0, 0(x5) in the place of SB x0, 1(x5).
-const SAME_BYTE: u32 = 0x0002_8023;
-
-const PAGE_NAMES: [(&str, u32); 3] = [
-    ("pthread_create", 0x1_009C),
-    ("pthread_join", 0x1_00A0),
-    ("pthread_exit", 0x1_00A4),
-];
-
-/// Thread 0 creates a thread, joins it and exits; thread 1 exits.
-const JOINS: [u32; 17] = [
-    0x0001_1537,
-    0x0000_0593,
-    0x0001_0637,
-    0x0906_0613,
-    0x0000_0693,
-    0x01C0_00EF,
-    0x0010_0513,
-    0x0000_0593,
-    0x0140_00EF,
-    0x0000_0513,
-    0x05D0_0893,
-    0x0000_0073,
-    0x0000_8067,
-    0x0000_8067,
-    0x0000_8067,
-    0x0000_0513,
-    0xFF9F_F0EF,
-];
-
-const JOINS_NAMES: [(&str, u32); 3] = [
-    ("pthread_create", 0x1_0084),
-    ("pthread_join", 0x1_0088),
-    ("pthread_exit", 0x1_008C),
-];
-
-/// Lists of faults, and journals.
+/// Lists of faults.
 const TEXTS: &[(&str, &str)] = &[
-    ("journal", SEVEN),
-    ("watched", "romain 2\nvote 0 2 0 - watch\n"),
-    ("four", "romain 1\nvote 0 4 0 - served\n"),
-    ("header", "romain 9\nvote 0 2 0 - served\n"),
-    ("range", "romain 1\nvote 16 2 0 - served\n"),
-    ("empty", "romain 1\n"),
-    (
-        "hello-plan",
-        "romain 1\nvote 0 5 0 - served\nvote 0 2 0 - served\nend exit 0\n",
-    ),
-    (
-        "hello-late",
-        "romain 1\nvote 0 5 0 - served\nvote 0 2 0 - served\nfree 0\n",
-    ),
-    (
-        "read-plan",
-        "romain 1\nvote 0 4 0 - served\nvote 0 1 0 - served\n",
-    ),
-    (
-        "page-plan",
-        "romain 1\nvote 0 6 0 - served\nvote 0 1 0 - mapped\nvote 0 4 0 - blocked\nvote 1 4 0 - served\nfree 0\nvote 0 2 0 - served\n",
-    ),
-    (
-        "page-late",
-        "romain 1\nvote 0 6 0 - served\nvote 0 1 0 - mapped\nvote 0 4 0 - blocked\nvote 1 4 0 - served\nfree 0\nvote 0 2 0 - served\nfree 0\n",
-    ),
     ("one", "1 0 1 reg 10 0\n"),
     ("unlike", "0 0 1 reg 10 0\n1 0 1 reg 10 1\n"),
 ];
 
-// The store of the rows.
+// The store of the rows: all guests and texts.
 fn store(rt: &impl Abort, alloc: Global) -> Result<MemStore, Fail> {
     let mut store = MemStore::new(alloc);
-    for (name, words) in GUESTS {
-        assert!(rt; words.len() <= 65_536, "of {name}");
-        let file = image_bytes(alloc, words, 5, &[])?;
-        store.put(name, file.as_slice())?;
+    for guest in GUESTS {
+        store.put(guest.name, guest.file(rt, alloc)?.as_slice())?;
     }
-    let mut same = PAGE;
-    same[15] = SAME_BYTE;
-    store.put(
-        "page",
-        image_bytes(alloc, &PAGE, 7, &PAGE_NAMES)?.as_slice(),
-    )?;
-    store.put(
-        "byte",
-        image_bytes(alloc, &same, 7, &PAGE_NAMES)?.as_slice(),
-    )?;
-    store.put(
-        "joins",
-        image_bytes(alloc, &JOINS, 5, &JOINS_NAMES)?.as_slice(),
-    )?;
     for (name, text) in TEXTS {
         store.put(name, text.as_bytes())?;
     }
@@ -766,7 +271,7 @@ impl Gate for Meeting {
 #[test]
 fn two_drivers_at_once(rt: HostRuntime) -> Result<(), Fail> {
     for mode in ["vote", "coop"] {
-        for (guest, status, votes) in [("seven", 7, 0), ("hello", 0, 0), ("hello", 0, 1)] {
+        for (guest, status, votes) in [("exit_7", 7, 0), ("hello", 0, 0), ("hello", 0, 1)] {
             assert_meeting(&rt, rt.alloc(), mode, guest, status, votes)?;
         }
     }
@@ -790,7 +295,7 @@ fn assert_meeting<R: Threads + Wait + Abort + Sync>(
         met: AtomicU64::new(0),
     };
     let words = ["run", guest, "--mode", mode, "--drivers", "2"];
-    let done = do_command(rt, alloc, &words, &mut store, &[], &gate)?.done;
+    let done = do_command(rt, alloc, &words, &mut store, &gate)?.done;
     assert_eq!(rt; done.answer, Answer::Exit(status), "of {guest} by {mode}");
     assert_eq!(rt;
         gate.met.load(Ordering::SeqCst),
@@ -863,7 +368,7 @@ fn two_drivers_in_one_replica(rt: HostRuntime) -> Result<(), Fail> {
         met: AtomicU64::new(0),
     };
     let words = ["run", "joins", "--drivers", "2"];
-    let Came { done, report } = do_command(&rt, alloc, &words, &mut store, &[], &gate)?;
+    let Came { done, report } = do_command(&rt, alloc, &words, &mut store, &gate)?;
     assert_eq!(rt; done.answer, Answer::Exit(0));
     assert_eq!(rt; gate.met.load(Ordering::SeqCst), 1);
     assert_eq!(rt;

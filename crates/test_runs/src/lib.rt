@@ -1,5 +1,5 @@
-//! Worked rows of whole runs, as tests: each an executable made of words, and what the command that runs it has to write,
-//! report and answer.
+//! Whole runs by the call that does it all, as tests of what no script can ask of the program: stores and sinks that fail at each
+//! of their calls, which file was refused, views that are kept, drivers that wait for each other. `tests/rows` has all other runs.
 #![tactic(auto)]
 
 #[cfg(test)]
@@ -10,9 +10,3 @@ mod edges;
 mod guests;
 #[cfg(test)]
 mod outside;
-#[cfg(test)]
-mod rows;
-#[cfg(test)]
-mod scrubs;
-#[cfg(test)]
-mod tests;

@@ -1,7 +1,6 @@
 //! Each call of a command's store fails in turn, each of its output's sink and each of its report's.
 use crate::commands::{BROKEN, COMMANDS, Command, TEXTS};
 use crate::guests::GUESTS;
-use crate::tests::{ROOM, file_of};
 use ro_io::{Act, MemSink, MemStore, OpenGate};
 use ro_journal::{Entry, How};
 use ro_report::answer_line;
@@ -11,6 +10,9 @@ use std::process::Abort;
 use std::sync::Wait;
 use std::test::Fail;
 use std::thread::Threads;
+
+/// How many bytes a sink takes at most.
+const ROOM: usize = 8192;
 
 /// More calls than a command makes of a sink.
 const MOST_CALLS: usize = 1_000;
@@ -93,7 +95,7 @@ fn pieces(rt: HostRuntime) -> Result<(), Fail> {
         );
         match row.end {
             Some(how) => assert_eq!(rt; done.journal.last(), Some(&Entry::End { how })),
-            None => assert!(rt; done.journal.is_empty()),
+            None => assert!(rt; done.journal.is_empty() && done.views.is_empty()),
         }
     }
     Ok(())
@@ -296,7 +298,7 @@ fn store_of(rt: &impl Abort, alloc: Global, words: &[&str]) -> Result<MemStore, 
     let mut store = MemStore::new(alloc);
     for guest in GUESTS {
         if words.contains(&guest.name) {
-            store.put(guest.name, file_of(rt, alloc, guest)?.as_slice())?;
+            store.put(guest.name, guest.file(rt, alloc)?.as_slice())?;
         }
     }
     for (name, text) in TEXTS {

@@ -1,15 +1,13 @@
 -- The commands, by what is known of each.
-use Rattle.std.proofs.Common.{◌≡◌, ◌∙◌, Bool, false, true, List, [], ◌∷◌, Option, Some, None, refl, ap, ap₂, codes}
+use Rattle.std.proofs.Common.{◌≡◌, ◌∙◌, Bool, false, true, List, [], ◌∷◌, Option, Some, None, refl, ap, codes}
 use Rattle.std.specs.Prelude.{option_and_then, option_map}
 use Rattle.std.specs.List.{AllByRecursion, list_any}
 use Rattle.std.proofs.lemmas.Bool.{or_parts}
 use Rattle.clap.specs.Faults.{is_simple_and_free}
 use Rattle.ro_settings.specs.declared.Mode.{Mode}
-use Rattle.ro_settings.specs.declared.Mode.TheVariants.{Voted}
 use Rattle.ro_settings.specs.declared.Settings.{Settings}
-use Rattle.ro_words.specs.Commands.{Asked, AskedAudit, AskedRun, asked_run, audit_from, audit_given, bench_given, inject_given, kept_of, mode_for, mode_or_votes, plain_given, races_given, run_from, run_given, run_options, settings_of, suited, to_run}
+use Rattle.ro_words.specs.Commands.{Asked, AskedAudit, AskedRun, asked_run, audit_given, bench_given, inject_given, kept_of, mode_for, mode_or_votes, plain_given, races_given, run_from, run_given, run_options, settings_of, suited, to_run}
 use Rattle.ro_words.specs.declared.commands.Kept.{Kept}
-use Rattle.ro_words.specs.declared.commands.Kept.TheVariants.{Nothing}
 use Rattle.ro_words.specs.Grammar.{audit_app, romain_app}
 use Rattle.ro_words.specs.Uses.{Syntax, Text, is_flag}
 use Rattle.ro_words.proofs.Grammars.{audit_grammar, bench_grammar, inject_grammar, plan_grammar, run_grammar}

@@ -1,5 +1,5 @@
 -- What is known of a command's arguments: which one a name belongs to, and which one a place.
-use Rattle.std.proofs.Common.{◌≡◌, ◌∙◌, ℕ, ◌+◌, Bool, true, false, not, ◌&&◌, ◌∷◌, ◌++◌, List, [], Option, Some, None, refl, ap, sym, subst, inl, inr}
+use Rattle.std.proofs.Common.{◌≡◌, ◌∙◌, ℕ, ◌+◌, Bool, true, false, not, ◌&&◌, ◌∷◌, ◌++◌, List, [], Some, None, refl, sym, subst, inl, inr}
 use Rattle.std.specs.Prelude.{fold, min}
 use Rattle.std.specs.List.{AllByRecursion, list_all, list_any}
 use Rattle.std.specs.Str.{bytes_eq}

@@ -1,5 +1,5 @@
 -- What `clap` is asked to read.
-use Rattle.std.specs.Prelude.{◌≡◌, List, [], ◌∷◌, ◌++◌, Option, Some, None, codes, false, true, map, fold}
+use Rattle.std.specs.Prelude.{◌≡◌, List, [], ◌++◌, Some, codes, false, true, map, fold}
 use Rattle.clap.specs.Walk.{Rule, Text}
 use Rattle.clap.specs.Simple.{App, Shape, app_of, new_app, new_rule, new_shape, on_top, with_rule}
 use Rattle.ro_words.specs.Uses.{Syntax}

@@ -30,7 +30,7 @@ from debugging.packets import Wire
 from debugging.quick import QuickReplay
 from debugging.server import Server
 from fuzzing import readers
-from racing.machine import Refused
+from racing.machine import Refused, is_of_files
 
 PORT = 1234
 
@@ -72,8 +72,10 @@ def serve(arguments: argparse.Namespace):
     file, journal = arguments.exe.read_bytes(), arguments.plan.read_bytes()
     data = arguments.input.read_bytes() if arguments.input else b""
     history = History(QuickReplay(file, data), Moments(journal))
+    is_of_files(journal, file, data)
     faults = arguments.faults.read_bytes() if arguments.faults else b""
-    job = job_of(file, data, faults, {name: getattr(arguments, name) for name in readers.RANGES})
+    said = readers.recorded_in(journal) or vars(arguments)  # a record says the numbers itself
+    job = job_of(file, data, faults, {name: said[name] for name in readers.RANGES})
     wire = Wire(sys.stdin.fileno(), sys.stdout.fileno()) if arguments.pipe else connected(arguments.port)
     Server(wire, history, Monitor(history, job, journal)).serve()
 

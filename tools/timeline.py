@@ -22,7 +22,7 @@ import statistics
 import sys
 
 import sentences
-from journals import End, Free, Part, Put, Scrub, Vote, read_report
+from journals import End, Free, Part, Put, Scrub, Vote, head_lines, read_report
 
 LEFT, RIGHT, WIDTH = 96, 24, 1100  # margins and the whole width, in pixels
 LANE, BAR, GAP, HEAD, FOOT = 18, 10, 10, 22, 26  # a lane's height, a bar's, between threads, above and below a line's lanes
@@ -98,7 +98,8 @@ def read_journal(text, name):
     try:
         return read_report(text)
     except (ValueError, IndexError, TypeError):
-        for number, line in enumerate(text.splitlines(), 1):
+        lines = text.splitlines()
+        for number, line in enumerate(lines[head_lines(lines):], 1 + head_lines(lines)):
             try:
                 read_report(line)
             except (ValueError, IndexError, TypeError):
@@ -470,7 +471,7 @@ def draw(arguments):
     text = sys.stdin.read() if arguments.journal == "-" else read_text(pathlib.Path(arguments.journal))
     report = read_journal(text, arguments.journal)
     if not report.entries:
-        sys.exit(f"timeline: {arguments.journal} has no journal; run with --journal")
+        sys.exit(f"timeline: {arguments.journal} has no journal; run with --record or --journal")
     whole = layout(report, read_faults(arguments.faults))
     first, last = arguments.first, whole.length if arguments.last is None else min(arguments.last, whole.length)
     if not 0 <= first < max(1, last):

@@ -16,7 +16,7 @@ import sys
 import sentences
 from debugging.moments import Moments
 from debugging.tracing import Calls, Tracer
-from racing.machine import NoStep, Refused
+from racing.machine import NoStep, Refused, is_of_files
 from racing.symbols import Executable
 
 
@@ -31,8 +31,10 @@ def read_arguments() -> argparse.Namespace:
 
 def trace(arguments: argparse.Namespace):
     executable = Executable(arguments.exe)
-    machine = Tracer(executable.data, arguments.input.read_bytes() if arguments.input else b"")
-    for line in Calls(machine, Moments(arguments.plan.read_bytes()), executable, arguments.bytes).lines():
+    data, journal = arguments.input.read_bytes() if arguments.input else b"", arguments.plan.read_bytes()
+    machine, moments = Tracer(executable.data, data), Moments(journal)
+    is_of_files(journal, executable.data, data)
+    for line in Calls(machine, moments, executable, arguments.bytes).lines():
         print(line)
 
 

@@ -28,7 +28,7 @@ class NotLegal(Exception):
 
 def overwritten(job: Job, journal: bytes) -> collections.abc.Iterator[Overwritten]:
     """What each copy of a journal overwrites, in order. A cooperative run has none."""
-    entries, core = [] if journal.startswith(readers.COOP + b"\n") else entries_of(journal), Core(job)
+    entries, core = [] if readers.is_coop(journal) else entries_of(journal), Core(job)
     for place, entry in enumerate(entries):
         losers = entry.losers if isinstance(entry, Vote | Scrub) else ()
         told = [Overwritten(place, loser, entry.winner, [*differences(core.replicas[loser], core.replicas[entry.winner]),

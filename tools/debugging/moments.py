@@ -20,7 +20,7 @@ class Moments:
         entries, bad = readers.journal_of(journal)
         if bad:
             raise Refused(f"plan {bad[0]} {bad[1]}")
-        is_cooperative = journal.startswith(readers.COOP + b"\n")
+        is_cooperative = readers.is_coop(journal)
         self.entries, self.stretches, place = [], [], 0
         self.walk = readers.plan_of(entries, is_cooperative)
         for words in entries:

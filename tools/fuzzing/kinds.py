@@ -12,9 +12,10 @@ SMALL = ROOT / "crates/romain/data"
 
 # The answers and their statuses, as docs/USING.md has them.
 STATUSES = {"deadlock": 240, "trap": 241, "differ": 242, "no-majority": 243, "limit": 244, "sink": 245, "store": 246, "exe": 247,
-            "faults": 248, "words": 249, "no-memory": 250, "too-long": 252, "plan": 253, "no-step": 254, "unended": 239}
+            "faults": 248, "words": 249, "no-memory": 250, "too-long": 252, "plan": 253, "no-step": 254, "unended": 239,
+            "other": 238}
 NUMBERS = {"exit": 1, "trap": 1, "limit": 2, "sink": 1, "exe": 1, "faults": 2, "plan": 2, "no-step": 1}  # behind an answer
-REFUSALS = ["store", "exe", "faults", "words", "too-long", "plan"]
+REFUSALS = ["store", "exe", "faults", "words", "too-long", "plan", "other"]
 # What no case asks for: all files and outputs are there, and there is memory.
 NEVER = ["sink", "no-memory"]
 
@@ -49,6 +50,8 @@ class Came:
 def status_of(answer):
     """The status that goes with an answer; None where it is none."""
     kind, *numbers = answer.split(" ")
+    if kind == "other":
+        return STATUSES[kind] if len(numbers) == 1 and numbers[0] in (*readers.RANGES, *readers.DIGESTS) else None
     if len(numbers) != NUMBERS.get(kind, 0) or not all(number.isdigit() for number in numbers):
         return None
     return int(numbers[0]) if kind == "exit" else STATUSES.get(kind)
@@ -200,7 +203,7 @@ class Words:
             value = draw.choice(self.options[name][:3] if draw.randrange(2) else self.options[name])
             words[draw.choice((0, len(words))):0] = draw.choice(([b"--" + name, value], [b"--" + name + b"=" + value]))
         if draw.randrange(3) == 0:
-            words.insert(draw.choice((0, len(words))), b"--journal")
+            words.insert(draw.choice((0, len(words))), draw.choice((b"--journal", b"--record")))
         words.insert(0, b"run")
         for _ in range(draw.choice((0, 0, 1, 1, 2))):
             drawing.change_words(draw, words)
@@ -236,9 +239,18 @@ class Words:
         ran = case.about is not None and case.wanted.split(" ")[0] not in REFUSALS
         if not ran:
             return
-        head = readers.COOP if case.about.get("mode") == "coop" else b"romain 2"
-        if ("journal" in case.about) != came.report.startswith(head + b"\n"):
+        wanted = [case.about.get("mode") == "coop", "record" in case.about] if case.about.keys() & set(readers.FLAGS) else None
+        first = came.report.partition(b"\n")[0]
+        told = [readers.is_coop(came.report), first in readers.RECORDS] if first in readers.HEADS or first in readers.RECORDS else None
+        if told != wanted:
             yield f"the report begins with {came.report[:40]!r}"
+        elif told and told[1] and readers.recorded_in(came.report) != self.recorded(case.about):
+            yield f"the record says {readers.recorded_in(came.report)}"
+
+    def recorded(self, run):
+        """What the record of a run says."""
+        contents = [self.content(run[name]) if name in run else b"" for name in readers.DIGESTS]
+        return {name: run[name] for name in readers.RANGES} | dict(zip(readers.DIGESTS, map(readers.digest_of, contents)))
 
 
 class Journals:
@@ -255,7 +267,7 @@ class Journals:
     def text(self, draw):
         """A journal like those that a run of one driver has, and now and then a lease that comes back in parts. One of a cooperative
         run has the same steps."""
-        lines, left = [draw.choice((b"romain 2", b"romain 2", readers.COOP))], [13, 6]
+        lines, left = draw.choice(([b"romain 2"], [b"romain 2"], [readers.COOP], self.record_head(draw))), [13, 6]
         for steps in left:
             for replica in range(3):
                 kind = draw.choice((b"put", b"put", b"put", b"part"))
@@ -268,11 +280,19 @@ class Journals:
     def draw(self, draw):
         text = drawing.mutated_text(draw, self.text(draw))
         entries, bad = readers.journal_of(text)
-        return Case([b"plain", b"guest", b"--plan", b"plan"], {"guest": self.guest, "plan": text},
-                    f"plan {bad[0]} {bad[1]}" if bad else self.wanted(self.plan_of(text, entries)), self.plan_of(text, entries))
+        plan, other = self.plan_of(text, entries), readers.other_of(text, self.guest, b"")
+        wanted = f"plan {bad[0]} {bad[1]}" if bad else f"other {other}" if other else self.wanted(plan)
+        return Case([b"plain", b"guest", b"--plan", b"plan"], {"guest": self.guest, "plan": text}, wanted, plan)
+
+    def record_head(self, draw):
+        """The head of a record of the greeting, which now and then is another's."""
+        numbers = [b"%s %d" % (name.encode(), usual) for name, (_, _, usual) in readers.RANGES.items()]
+        files = [draw.choice((self.guest,) * 6 + (b"",)), draw.choice((b"",) * 6 + (b"a",)), b""]
+        digests = [f"{name} {readers.digest_of(file)}".encode() for name, file in zip(readers.DIGESTS, files)]
+        return [draw.choice(list(readers.RECORDS)), *numbers, *digests]
 
     def plan_of(self, text, entries):
-        return list(readers.plan_of(entries, text.startswith(readers.COOP + b"\n")))
+        return list(readers.plan_of(entries, readers.is_coop(text)))
 
     def wanted(self, plan):
         length, place = 0, None
@@ -289,7 +309,7 @@ class Journals:
     def troubles(self, case, came):
         kind, *numbers = case.wanted.split(" ")
         length = sum(steps for _, steps in case.about)
-        taken = 0 if kind in ("plan", "limit") else int(numbers[0]) if kind == "no-step" else length
+        taken = 0 if kind in ("plan", "limit", "other") else int(numbers[0]) if kind == "no-step" else length
         output = Faults.OUTPUT if taken >= self.WRITES else b""
         summary = f"steps {length} bytes {len(output)}\n" if kind in ("exit", "unended") else ""
         if came.output != output:

@@ -2,6 +2,7 @@
 the pages, not after the program, so that one shows an error of the other."""
 import collections
 import dataclasses
+import hashlib
 import re
 import struct
 
@@ -192,6 +193,7 @@ def faults_of(data, replicas):
 
 RANGES = options.tabled(options.USING.read_text())
 VALUED = ["input", "faults", "mode", *RANGES]
+FLAGS = ["journal", "record"]  # what is told of the journal: one of them at most
 MODES = {"vote": False, "coop": True}  # whether it is the cooperative one
 
 
@@ -219,7 +221,7 @@ def run_of(words):
             return None
         else:
             name, equals, value = word[2:].partition("=")
-            if name == "journal" and not equals:
+            if name in FLAGS and not equals:
                 value = "true"
             elif name not in VALUED:
                 return None
@@ -234,7 +236,7 @@ def run_of(words):
             return None
     is_coop = MODES.get(given.get("mode", "vote"))
     suits = is_coop is not None and not (is_coop and ("faults" in given or given["scrub"] > 0))
-    return given if "exe" in given and given["replicas"] != 4 and suits else None
+    return given if "exe" in given and given["replicas"] != 4 and suits and not given.keys() >= set(FLAGS) else None
 
 
 # ---- Journals
@@ -244,6 +246,9 @@ STEPS = [b"served", b"trapped", b"parked"]  # of what a vote did, what is a step
 HOWS = {b"exit": [(0, 255)], b"deadlock": [], b"trap": [(1, 9)], b"limit": [(0, 10**12)] * 2, b"differ": [], b"no-majority": [],
         b"sink": [(0, 4095)]}
 COOP = b"romain 2 coop"  # the first line of a cooperative run
+RECORDS = {b"romain 3 vote": b"romain 2", b"romain 3 coop": COOP}  # the first lines of records, and under which entries stand as behind them
+DIGESTS = ["exe", "input", "faults"]
+FIRST_ENTRY = 2 + len(RANGES) + len(DIGESTS)  # the line of a record's first entry
 HEADS = {b"romain 1": (0, 2), b"romain 2": (0, 4), COOP: (0, 4)}  # the numbers of replicas by the first line
 DRIVER, THREAD = (0, 7), (0, 15)
 
@@ -303,16 +308,66 @@ def entry_code(words, replica):
     return 2 if code is None and not rise else code
 
 
+def digest_of(content):
+    """The SHA-256 of a content, in words."""
+    return hashlib.sha256(content).hexdigest()
+
+
+def is_coop(data):
+    """Whether a text's first line is that of a cooperative run."""
+    first, _, _ = data.partition(b"\n")
+    return RECORDS.get(first, first) == COOP
+
+
+def head_code(name, words):
+    """The code by which the line of this name in a record's head is refused, or None."""
+    if len(words) != 2 or words[0] != name.encode():
+        return 1
+    if name in DIGESTS:
+        return None if re.fullmatch(rb"[0-9a-f]{64}", words[1]) else 1
+    least, most, _ = RANGES[name]
+    return fields_code(words[1:], [(least, most)]) or (2 if name == "replicas" and words[1] == b"4" else None)
+
+
+def head_of(data):
+    """What a record's head says, by the names of its lines, and None, or the first bad line and its code."""
+    lines, said = data.split(b"\n"), {}
+    for number, name in enumerate([*RANGES, *DIGESTS], 2):
+        words = lines[number - 1].split(b" ") if number < len(lines) else []
+        code = head_code(name, words)
+        if code is not None:
+            return {}, (number, code)
+        said[name] = words[1].decode() if name in DIGESTS else int(words[1])
+    return said, None
+
+
+def recorded_in(data):
+    """What the head of a record says, or None where it is none or a bad one."""
+    first, feed, _ = data.partition(b"\n")
+    said, bad = head_of(data) if first in RECORDS and feed else ({}, (1, 1))
+    return None if bad else said
+
+
+def other_of(data, executable, content):
+    """Which file another one stands for than a record says, the executable or the input; or None."""
+    said = recorded_in(data) or {}
+    files = {"exe": executable, "input": content}
+    return next((name for name, file in files.items() if name in said and said[name] != digest_of(file)), None)
+
+
 def journal_of(data):
     """The words of a journal's lines up to its end and None, or the first bad line and its code."""
     lines, entries = data.split(b"\n"), []
-    if lines[0] not in HEADS or len(lines) < 2:
+    head, start = RECORDS.get(lines[0], lines[0]), FIRST_ENTRY if lines[0] in RECORDS else 2
+    if head not in HEADS or len(lines) < 2:
         return [], (1, 1)
-    for number, line in enumerate(lines[1:], 2):
+    if lines[0] in RECORDS and head_of(data)[1]:
+        return [], head_of(data)[1]
+    for number, line in enumerate(lines[start - 1:], start):
         last = number == len(lines)
         if last and line == b"":
             break
-        code = 1 if last else entry_code(line.split(b" "), HEADS[lines[0]])
+        code = 1 if last else entry_code(line.split(b" "), HEADS[head])
         if code is not None:
             return [], (number, code)
         entries.append(line.split(b" "))

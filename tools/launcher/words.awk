@@ -106,8 +106,10 @@ function wrong(    i, command, word, name, given, trouble) {
     return trouble != "" ? trouble : missing(command, given)
 }
 
-# A cooperative run has neither faults nor scrubs, and a smaller limit.
+# Of a run's journal one form is told. A cooperative run has neither faults nor scrubs, and a smaller limit.
 function unsuited() {
+    if (("--journal" in seen) && ("--record" in seen))
+        return "--record stands in the place of --journal"
     if (values["--mode"] != "coop")
         return ""
     if ("--faults" in values)

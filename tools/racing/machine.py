@@ -232,12 +232,19 @@ def meaning(call: Call, served: Served) -> tuple[Relation, int]:
 Plan = list[tuple[int, int]]  # a thread, and how many steps of it follow each other
 
 
+def is_of_files(journal: bytes, executable: bytes, data: bytes):
+    """Refused where the journal is a record of another executable or input."""
+    other = readers.other_of(journal, executable, data)
+    if other:
+        raise Refused(f"other {other}")
+
+
 def plan_of(journal: bytes) -> Plan:
     """The steps that a journal names."""
     entries, bad = readers.journal_of(journal)
     if bad:
         raise Refused(f"plan {bad[0]} {bad[1]}")
-    return list(readers.plan_of(entries, journal.startswith(readers.COOP + b"\n")))
+    return list(readers.plan_of(entries, readers.is_coop(journal)))
 
 
 def steps_of(machine: Replay, plan: Plan) -> collections.abc.Iterator[Step]:

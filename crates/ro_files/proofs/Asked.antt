@@ -22,12 +22,14 @@ use Rattle.ro_replica.specs.Seen.{AreFaults}
 use Rattle.ro_report.specs.declared.answers.FileKind.{FileKind}
 use Rattle.ro_report.specs.declared.answers.FileKind.TheVariants.{Exe, Input, Faults, Plan}
 use Rattle.ro_report.specs.declared.answers.Answer.{Answer}
-use Rattle.ro_report.specs.declared.answers.Answer.TheVariants.{Exit, Deadlock, Trap, Unended, Differ, NoMajority, Limit, SinkFailed, StoreFailed, BadExe, BadFaults, BadPlan, NoStep, NoRace, Race, BadWords, TooLong, NoMemory}
+use Rattle.ro_report.specs.declared.answers.Answer.TheVariants.{Exit, Deadlock, Trap, Unended, Differ, NoMajority, Limit, SinkFailed, StoreFailed, BadExe, BadFaults, BadPlan, Other, NoStep, NoRace, Race, BadWords, TooLong, NoMemory}
 use Rattle.ro_words.specs.declared.commands.WordsError.{WordsError}
 use Rattle.ro_words.specs.declared.commands.WordsError.TheVariants.{NoMemory as NoRoom}
 use Rattle.ro_words.specs.Commands.{Asked, AskedBench, AskedPlan, AskedRun, SuitsMode, command_of, to_bench, to_plain, to_races, to_run}
 use Rattle.ro_files.specs.Files.{most_of, last_in, name_in, named, names_before, IsContent, IsFile}
-use Rattle.ro_files.specs.Refusals.{RefusesFile, RefusesContent, RefusesExe, RefusesList, RefusesPlan}
+use Rattle.ro_journal_text.specs.Records.{Any, file_any}
+use Rattle.ro_journal_text.specs.declared.records.Recorded.{Recorded}
+use Rattle.ro_files.specs.Refusals.{RefusesFile, RefusesContent, RefusesExe, RefusesFiles, RefusesList, RefusesPlan}
 use Rattle.ro_files.specs.Causes.{IsAccepted, HasInput, ComesAt, IsNamedFile, IsRefusal, IsTooLong, IsBadList, JobCause, RefusalCause, AsksAt, AsksTo, AsksFor, replicas_in}
 use Rattle.ro_legal.specs.Jobs.{CanRun, job_of}
 use Rattle.ro_legal.specs.Modes.{Suits}
@@ -76,6 +78,7 @@ module _ (files : Option Files) (asked : Asked) (old mid new : Calls) (kind : Fi
     file_cause name is (BadExe code) h = absurd h
     file_cause name is (BadFaults line code) h = absurd h
     file_cause name is (BadPlan line code) h = absurd h
+    file_cause name is (Other line) h = absurd h
     file_cause name is (NoStep place) h = absurd h
     file_cause name is NoRace h = absurd h
     file_cause name is (Race i j byte) h = absurd h
@@ -116,6 +119,7 @@ module _ (files : Option Files) (asked : Asked) (first last : ℕ) (content : Li
   faults_cause is (SinkFailed taken) h = absurd h
   faults_cause is (BadExe code) h = absurd h
   faults_cause is (BadPlan line code) h = absurd h
+  faults_cause is (Other line) h = absurd h
   faults_cause is (NoStep place) h = absurd h
   faults_cause is NoRace h = absurd h
   faults_cause is (Race i j byte) h = absurd h
@@ -136,10 +140,43 @@ module _ (files : Option Files) (asked : Asked) (first last : ℕ) (content : Li
   text_cause name e is short (SinkFailed taken) h = absurd h
   text_cause name e is short (BadExe code) h = absurd h
   text_cause name e is short (BadFaults line code) h = absurd h
+  text_cause name e is short (Other line) h = absurd h
   text_cause name e is short (NoStep place) h = absurd h
   text_cause name e is short NoRace h = absurd h
   text_cause name e is short (Race i j byte) h = absurd h
   text_cause name e is short BadWords h = absurd h
+
+  -- a record of other files
+  pub other_cause : (name : List ℕ) → name_in asked Plan ≡ Some name → IsFile files name content → length content ≤ most_of Plan → (journal : Any) → file_any content ≡ Ok journal
+      → (answer : Answer) → RefusesFiles journal.recorded accepted.executable input.input answer → JobCause files asked first last answer
+  other_cause name e is short journal read (Other line) h = record {
+    accepted = accepted;
+    input = input;
+    content = content;
+    file = record { name = name; name_is = e; content_is = is };
+    short = short;
+    journal = journal;
+    journal_is = read;
+    other = h;
+  }
+  other_cause name e is short journal read NoMemory h = absurd h
+  other_cause name e is short journal read StoreFailed h = absurd h
+  other_cause name e is short journal read (TooLong which) h = absurd h
+  other_cause name e is short journal read (Exit status) h = absurd h
+  other_cause name e is short journal read Deadlock h = absurd h
+  other_cause name e is short journal read (Trap cause) h = absurd h
+  other_cause name e is short journal read Unended h = absurd h
+  other_cause name e is short journal read Differ h = absurd h
+  other_cause name e is short journal read NoMajority h = absurd h
+  other_cause name e is short journal read (Limit steps next) h = absurd h
+  other_cause name e is short journal read (SinkFailed taken) h = absurd h
+  other_cause name e is short journal read (BadExe code) h = absurd h
+  other_cause name e is short journal read (BadFaults line code) h = absurd h
+  other_cause name e is short journal read (BadPlan line code) h = absurd h
+  other_cause name e is short journal read (NoStep place) h = absurd h
+  other_cause name e is short journal read NoRace h = absurd h
+  other_cause name e is short journal read (Race i j byte) h = absurd h
+  other_cause name e is short journal read BadWords h = absurd h
 
 -- which files were asked for, where one is refused for its content, or none is
 module _ (files : Option Files) (asked : Asked) (old new : Calls) where
@@ -155,6 +192,7 @@ module _ (files : Option Files) (asked : Asked) (old new : Calls) where
   exe_asks to content (SinkFailed taken) h = absurd h
   exe_asks to content (BadFaults line code) h = absurd h
   exe_asks to content (BadPlan line code) h = absurd h
+  exe_asks to content (Other line) h = absurd h
   exe_asks to content (NoStep place) h = absurd h
   exe_asks to content NoRace h = absurd h
   exe_asks to content (Race i j byte) h = absurd h
@@ -175,6 +213,7 @@ module _ (files : Option Files) (asked : Asked) (old new : Calls) where
   list_asks to replicas content (SinkFailed taken) h = absurd h
   list_asks to replicas content (BadExe code) h = absurd h
   list_asks to replicas content (BadPlan line code) h = absurd h
+  list_asks to replicas content (Other line) h = absurd h
   list_asks to replicas content (NoStep place) h = absurd h
   list_asks to replicas content NoRace h = absurd h
   list_asks to replicas content (Race i j byte) h = absurd h
@@ -195,6 +234,7 @@ module _ (files : Option Files) (asked : Asked) (old new : Calls) where
   plan_asks to content (SinkFailed taken) h = absurd h
   plan_asks to content (BadExe code) h = absurd h
   plan_asks to content (BadFaults line code) h = absurd h
+  plan_asks to content (Other line) h = absurd h
   plan_asks to content (NoStep place) h = absurd h
   plan_asks to content NoRace h = absurd h
   plan_asks to content (Race i j byte) h = absurd h
@@ -203,12 +243,35 @@ module _ (files : Option Files) (asked : Asked) (old new : Calls) where
   plan_asks to content StoreFailed h = absurd h
   plan_asks to content (TooLong which) h = absurd h
 
+  pub other_asks : AsksTo files asked old new Plan → (recorded : Option Recorded) (executable input : List ℕ) (answer : Answer) → RefusesFiles recorded executable input answer
+      → AsksFor files asked old new answer
+  other_asks to recorded executable input (Other line) h = to
+  other_asks to recorded executable input NoMemory h = absurd h
+  other_asks to recorded executable input (BadPlan line code) h = absurd h
+  other_asks to recorded executable input (Exit status) h = absurd h
+  other_asks to recorded executable input Deadlock h = absurd h
+  other_asks to recorded executable input (Trap cause) h = absurd h
+  other_asks to recorded executable input Differ h = absurd h
+  other_asks to recorded executable input NoMajority h = absurd h
+  other_asks to recorded executable input (Limit steps next) h = absurd h
+  other_asks to recorded executable input (SinkFailed taken) h = absurd h
+  other_asks to recorded executable input (BadExe code) h = absurd h
+  other_asks to recorded executable input (BadFaults line code) h = absurd h
+  other_asks to recorded executable input (NoStep place) h = absurd h
+  other_asks to recorded executable input NoRace h = absurd h
+  other_asks to recorded executable input (Race i j byte) h = absurd h
+  other_asks to recorded executable input Unended h = absurd h
+  other_asks to recorded executable input BadWords h = absurd h
+  other_asks to recorded executable input StoreFailed h = absurd h
+  other_asks to recorded executable input (TooLong which) h = absurd h
+
   pub done_asks : AsksTo files asked old new (last_in asked) → (answer : Answer) → (IsRefusal answer → ⊥) → AsksFor files asked old new answer
   done_asks to NoMemory other = inr (last_in asked, to)
   done_asks to StoreFailed other = absurd (other tt)
   done_asks to (BadExe code) other = absurd (other tt)
   done_asks to (BadFaults line code) other = absurd (other tt)
   done_asks to (BadPlan line code) other = absurd (other tt)
+  done_asks to (Other line) other = absurd (other tt)
   done_asks to BadWords other = absurd (other tt)
   done_asks to (TooLong which) other = absurd (other tt)
   done_asks to (Exit status) other = to
@@ -241,6 +304,7 @@ module _ (files : Option Files) (asked : AskedBench) (calls : Calls) where
   bench_asks (TooLong kind) h = let long = h tt in absurd (never kind long.file.name long.file.name_is)
   bench_asks (BadFaults line code) h = let bad = h tt in absurd (never Faults bad.file.name bad.file.name_is)
   bench_asks (BadPlan line code) h = let bad = h tt in absurd (never Plan bad.file.name bad.file.name_is)
+  bench_asks (Other line) h = let other = h tt in absurd (never Plan other.file.name other.file.name_is)
   bench_asks BadWords h = absurd (h tt)
   bench_asks (Exit status) h = none_asked
   bench_asks Deadlock h = none_asked
@@ -257,10 +321,10 @@ module _ (files : Option Files) (asked : AskedBench) (calls : Calls) where
 
 -- the files of a plan are refused alike, whether it is to be run or checked
 module _ (files : Option Files) (asked : AskedPlan) where
-  same_accepted : IsAccepted files (to_plain asked) → IsAccepted files (to_races asked)
+  abbrev same_accepted : IsAccepted files (to_plain asked) → IsAccepted files (to_races asked)
   same_accepted h = record { executable = h.executable; executable_is = h.executable_is; accepted = h.accepted }
 
-  same_input : HasInput files (to_plain asked) → HasInput files (to_races asked)
+  abbrev same_input : HasInput files (to_plain asked) → HasInput files (to_races asked)
   same_input h = record { input = h.input; input_is = h.input_is }
 
   same_turn : (kind : FileKind) → ComesAt files (to_plain asked) kind → ComesAt files (to_races asked) kind
@@ -285,6 +349,16 @@ module _ (files : Option Files) (asked : AskedPlan) where
       record { earlier = same_turn Faults h.earlier; content = h.content; file = same_file Faults h.content h.file; short = h.short; bad = h.bad }
   races_cause before after (BadPlan line code) h =
       record { earlier = same_turn Plan h.earlier; content = h.content; file = same_file Plan h.content h.file; short = h.short; bad = h.bad }
+  races_cause before after (Other line) h = record {
+    accepted = same_accepted h.accepted;
+    input = same_input h.input;
+    content = h.content;
+    file = same_file Plan h.content h.file;
+    short = h.short;
+    journal = h.journal;
+    journal_is = h.journal_is;
+    other = h.other;
+  }
   races_cause before after (TooLong kind) h =
       record { earlier = same_turn kind h.earlier; content = h.content; file = same_file kind h.content h.file; long = h.long }
   races_cause before after NoMemory h = tt
@@ -329,6 +403,7 @@ module _ (files : Option Files) (asked : AskedPlan) where
   races_asks old new (Limit steps next) h = same_to old new Plan h
   races_asks old new (SinkFailed taken) h = same_to old new Plan h
   races_asks old new (BadPlan line code) h = same_to old new Plan h
+  races_asks old new (Other line) h = same_to old new Plan h
   races_asks old new (NoStep place) h = same_to old new Plan h
   races_asks old new NoRace h = same_to old new Plan h
   races_asks old new (Race i j byte) h = same_to old new Plan h
@@ -357,6 +432,7 @@ spelled_cause files words asked before after (TooLong which) is h = (asked, is, 
 spelled_cause files words asked before after (BadExe code) is h = (asked, is, h)
 spelled_cause files words asked before after (BadFaults line code) is h = (asked, is, h)
 spelled_cause files words asked before after (BadPlan line code) is h = (asked, is, h)
+spelled_cause files words asked before after (Other line) is h = (asked, is, h)
 spelled_cause files words asked before after NoMemory is h = tt
 spelled_cause files words asked before after BadWords is h = absurd h
 spelled_cause files words asked before after (Exit status) is h = absurd h

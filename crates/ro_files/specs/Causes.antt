@@ -1,5 +1,5 @@
 -- Why a command is refused, and which files its store was asked for.
-use Rattle.std.specs.Prelude.{◌≡◌, ◌⊎◌, ⊤, ℕ, ◌<◌, ◌≤◌, true, List, [], ◌∷◌, ◌++◌, length, Option, Some, None, Err}
+use Rattle.std.specs.Prelude.{◌≡◌, ◌⊎◌, ⊤, ℕ, ◌<◌, ◌≤◌, true, List, [], ◌∷◌, ◌++◌, length, Option, Some, None, Ok, Err}
 use Rattle.ro_io.specs.Outside.{Asks, Call, Calls, Files, Rose, unfailed}
 use Rattle.ro_make.specs.Bench.{bench_file}
 use Rattle.ro_elf.specs.Errors.{number_of}
@@ -10,12 +10,14 @@ use Rattle.ro_faults.specs.declared.errors.FaultsError.TheVariants.{Bad}
 use Rattle.ro_faults.specs.Texts.{file_faults}
 use Rattle.ro_report.specs.declared.answers.FileKind.{FileKind}
 use Rattle.ro_report.specs.declared.answers.FileKind.TheVariants.{Exe, Input, Faults, Plan}
+use Rattle.ro_report.specs.declared.answers.HeadLine.{HeadLine}
 use Rattle.ro_report.specs.declared.answers.Answer.{Answer}
-use Rattle.ro_report.specs.declared.answers.Answer.TheVariants.{StoreFailed, BadExe, BadFaults, BadPlan, BadWords, TooLong, NoMemory}
+use Rattle.ro_report.specs.declared.answers.Answer.TheVariants.{StoreFailed, BadExe, BadFaults, BadPlan, Other, BadWords, TooLong, NoMemory}
 use Rattle.ro_words.specs.Commands.{Asked, command_of, to_bench, to_inject, to_plain, to_races, to_run}
 use Rattle.ro_journal_text.specs.declared.errors.JournalCode.{JournalCode}
 use Rattle.ro_journal_text.specs.declared.errors.JournalError.TheVariants.{Bad as BadLine}
-use Rattle.ro_journal_text.specs.Reading.{file_journal}
+use Rattle.ro_journal_text.specs.Records.{Any, file_any}
+use Rattle.ro_files.specs.Agreeing.{other_file}
 use Rattle.ro_files.specs.Files.{most_of, last_in, name_in, named, names_before, IsFile, IsContent}
 
 -- ---- refusals
@@ -26,6 +28,7 @@ IsRefusal StoreFailed = ⊤
 IsRefusal (BadExe code) = ⊤
 IsRefusal (BadFaults line code) = ⊤
 IsRefusal (BadPlan line code) = ⊤
+IsRefusal (Other line) = ⊤
 IsRefusal BadWords = ⊤
 IsRefusal (TooLong kind) = ⊤
 IsRefusal answer = ⊥
@@ -94,7 +97,18 @@ pub record IsBadPlan (files : Option Files) (asked : Asked) (line : ℕ) (code :
   pub content : List ℕ
   pub file : IsNamedFile files asked Plan content
   pub short : length content ≤ most_of Plan
-  pub bad : file_journal content ≡ Err (BadLine line code)
+  pub bad : file_any content ≡ Err (BadLine line code)
+
+-- The journal of a plan may be read, and says that it is of another run: this line of its head says another executable or input.
+pub record IsOther (files : Option Files) (asked : Asked) (line : HeadLine) : Type 0 where
+  pub accepted : IsAccepted files asked
+  pub input : HasInput files asked
+  pub content : List ℕ
+  pub file : IsNamedFile files asked Plan content
+  pub short : length content ≤ most_of Plan
+  pub journal : Any
+  pub journal_is : file_any content ≡ Ok journal
+  pub other : other_file journal.recorded accepted.executable input.input ≡ Some line
 
 -- Why nothing is done of a command, where the store's count of failures was the one and is the other. There is no memory only by chance.
 abbrev pub JobCause : Option Files → Asked → (before after : ℕ) → Answer → Type 0
@@ -102,6 +116,7 @@ JobCause files asked before after StoreFailed = Rose before after
 JobCause files asked before after (BadExe error) = IsBadExe files asked error
 JobCause files asked before after (BadFaults line code) = IsBadList files asked line code
 JobCause files asked before after (BadPlan line code) = IsBadPlan files asked line code
+JobCause files asked before after (Other line) = IsOther files asked line
 JobCause files asked before after (TooLong kind) = IsTooLong files asked kind
 JobCause files asked before after NoMemory = ⊤
 JobCause files asked before after answer = ⊥
@@ -137,5 +152,6 @@ AsksFor files asked old new (BadExe code) = AsksTo files asked old new Exe
 AsksFor files asked old new (TooLong kind) = AsksTo files asked old new kind
 AsksFor files asked old new (BadFaults line code) = AsksTo files asked old new Faults
 AsksFor files asked old new (BadPlan line code) = AsksTo files asked old new Plan
+AsksFor files asked old new (Other line) = AsksTo files asked old new Plan
 AsksFor files asked old new NoMemory = Asks old new [] ⊎ ((kind : FileKind) × AsksTo files asked old new kind)
 AsksFor files asked old new answer = AsksTo files asked old new (last_in asked)

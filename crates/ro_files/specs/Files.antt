@@ -14,7 +14,9 @@ use Rattle.ro_legal.specs.Core.{Job}
 use Rattle.ro_legal.specs.Jobs.{job_of}
 use Rattle.ro_words.specs.Commands.{Asked, AskedBench, AskedInject, AskedPlan, AskedRun, to_bench, to_inject, to_plain, to_races, to_run}
 use Rattle.ro_journal.specs.declared.Entry.{Entry}
-use Rattle.ro_journal_text.specs.Reading.{file_journal}
+use Rattle.ro_journal_text.specs.Records.{file_any}
+use Rattle.ro_journal_text.specs.declared.records.Recorded.{Recorded}
+use Rattle.ro_files.specs.Agreeing.{other_file, recorded_of}
 use Rattle.ro_settings.specs.declared.Mode.{Mode}
 use Rattle.ro_plain.specs.Machine.{Program}
 
@@ -88,8 +90,12 @@ pub record IsJobOf (files : Option Files) (asked : AskedRun) (job : Job) : Type 
   pub faults_are : file_faults asked.settings.replicas list ≡ Ok faults
   pub job_is : job ≡ job_of (image_of executable) input faults asked.settings
 
--- What is to be run or checked by a plan: its files may be read, its executable is accepted, and its journal and the mode of the
--- journal's run are those of its text.
+-- of what run the journal of such a job is
+abbrev pub recorded_in : {files : Option Files} {asked : AskedRun} {job : Job} → IsJobOf files asked job → Recorded
+recorded_in {asked = asked} of = recorded_of asked.settings of.executable of.input of.list
+
+-- What is to be run or checked by a plan: its files may be read, its executable is accepted, its journal and the mode of the
+-- journal's run are those of its text, and where that is a record it is of the executable and the input.
 pub record IsPlanOf (files : Option Files) (asked : AskedPlan) (program : Program) (mode : Mode) (journal : List Entry) : Type 0 where
   pub executable : List ℕ
   pub executable_is : IsContent files Exe (Some asked.executable) executable
@@ -98,7 +104,9 @@ pub record IsPlanOf (files : Option Files) (asked : AskedPlan) (program : Progra
   pub input_is : IsContent files Input asked.input input
   pub text : List ℕ
   pub text_is : IsContent files Plan (Some asked.plan) text
-  pub journal_is : file_journal text ≡ Ok (record { mode = mode; entries = journal })
+  pub recorded : Option Recorded
+  pub journal_is : file_any text ≡ Ok (record { recorded = recorded; mode = mode; entries = journal })
+  pub same_files : other_file recorded executable input ≡ None
   pub program_is : program ≡ record { image = image_of executable; input = input }
 
 -- The faults that a draw is asked for: its executable may be read and is accepted, and they are drawn in its segments.

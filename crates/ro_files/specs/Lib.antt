@@ -1,3 +1,4 @@
+pub mod Agreeing
 pub mod Files
 pub mod Refusals
 pub mod Causes

@@ -6,10 +6,12 @@ use Rattle.ro_image.specs.Executable.{bad_code}
 use Rattle.ro_faults.specs.declared.errors.FaultsError.TheVariants.{Bad}
 use Rattle.ro_faults.specs.Texts.{file_faults}
 use Rattle.ro_journal_text.specs.declared.errors.JournalError.TheVariants.{Bad as BadLine}
-use Rattle.ro_journal_text.specs.Reading.{file_journal}
+use Rattle.ro_journal_text.specs.Records.{file_any}
+use Rattle.ro_journal_text.specs.declared.records.Recorded.{Recorded}
+use Rattle.ro_files.specs.Agreeing.{other_file}
 use Rattle.ro_report.specs.declared.answers.FileKind.{FileKind}
 use Rattle.ro_report.specs.declared.answers.Answer.{Answer}
-use Rattle.ro_report.specs.declared.answers.Answer.TheVariants.{StoreFailed, BadExe, BadFaults, BadPlan, TooLong, NoMemory}
+use Rattle.ro_report.specs.declared.answers.Answer.TheVariants.{StoreFailed, BadExe, BadFaults, BadPlan, Other, TooLong, NoMemory}
 use Rattle.ro_files.specs.Files.{most_of, IsFile}
 
 -- It could not be fetched, or has more bytes than it may have; and that was the store's one call.
@@ -39,6 +41,11 @@ RefusesList replicas bytes answer = ⊥
 
 -- it is no text of a journal
 abbrev pub RefusesPlan : (bytes : List ℕ) → Answer → Type 0
-RefusesPlan bytes (BadPlan line code) = file_journal bytes ≡ Err (BadLine line code)
+RefusesPlan bytes (BadPlan line code) = file_any bytes ≡ Err (BadLine line code)
 RefusesPlan bytes NoMemory = ⊤
 RefusesPlan bytes answer = ⊥
+
+-- the record is of another executable or input
+abbrev pub RefusesFiles : Option Recorded → (executable input : List ℕ) → Answer → Type 0
+RefusesFiles recorded executable input (Other line) = other_file recorded executable input ≡ Some line
+RefusesFiles recorded executable input answer = ⊥

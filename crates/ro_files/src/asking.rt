@@ -4,19 +4,23 @@ ghost use Rattle.ro_report.specs.declared.answers.Answer.TheVariants as a;
 ghost use Rattle.ro_words.specs.Commands.{Fits, inject_by, plan_by, run_by, to_inject, to_plain, to_run};
 ghost use Rattle.ro_legal.specs.Jobs.{job_of, CanRun};
 ghost use Rattle.ro_legal.specs.Rules.{IsFit};
-ghost use Rattle.ro_files.specs.Files.{IsContent, IsJobOf, IsPlanOf};
+ghost use Rattle.ro_files.specs.Agreeing.{recorded_of};
+ghost use Rattle.ro_files.specs.Files.{IsContent, IsJobOf, IsPlanOf, recorded_in};
 ghost use Rattle.ro_files.specs.Causes.{AsksFor, AsksTo, JobCause};
 ghost use Rattle.ro_image.specs.Executable.{bad_code, image_of};
 ghost use Rattle.ro_report.specs.declared.answers.FileKind.TheVariants.{Exe, Faults, Plan};
 
+use crate::agreeing::same_files;
 use crate::files::{faults, fetch, fetch_named, image, journal};
 use ro_faults::Fault;
 use ro_image::Executable;
 use ro_io::Store;
 use ro_journal::Entry;
+use ro_journal_text::Recorded;
 use ro_report::{Answer, FileKind};
 use ro_settings::{Mode, Settings};
 use ro_words::{InjectCommand, PlanCommand, RunCommand};
+use sha2::{Digest, Sha256};
 use std::alloc::Global;
 
 /// What is to be run: a program and its input, the faults that are to be struck, and how many replicas and drivers there are, in
@@ -45,6 +49,22 @@ pub struct FetchedJob {
     pub job: Job,
     /// The bytes of its executable's file.
     pub executable: Vec<u8>,
+    /// The bytes of its list of faults.
+    pub list: Vec<u8>,
+}
+
+impl FetchedJob {
+    /// Of what run a journal of the job is.
+    pub fn recorded(&self) -> Recorded
+        ensures { result ≡ recorded_of self.now.job.settings self.now.executable.items self.now.job.input.items self.now.list.items }
+    {
+        Recorded {
+            settings: self.job.settings,
+            exe: Sha256::digest(self.executable.as_slice()),
+            input: Sha256::digest(self.job.input.as_slice()),
+            faults: Sha256::digest(self.list.as_slice()),
+        }
+    }
 }
 
 /// Fetches the job of a run: its executable first, then its input, then its faults.
@@ -57,7 +77,8 @@ pub fn fetch_job<S: Store>(
     store: &mut S,
 ) -> Result<FetchedJob, Answer>
     requires { Fits (to_run (run_by command.now)) }
-    ensures job { IfOk result (λ fetched. IsJobOf (S.told store.old) (run_by command.now) (job_of fetched.job.image fetched.job.input.items fetched.job.faults.items fetched.job.settings)) }
+    ensures job { IfOk result (λ fetched. (of : IsJobOf (S.told store.old) (run_by command.now) (job_of fetched.job.image fetched.job.input.items fetched.job.faults.items fetched.job.settings)) × (recorded_in of ≡ recorded_of fetched.job.settings fetched.executable.items fetched.job.input.items fetched.list.items)) }
+    ensures settings { IfOk result (λ fetched. fetched.job.settings ≡ command.now.settings) }
     ensures can_run { IfOk result (λ fetched. CanRun (job_of fetched.job.image fetched.job.input.items fetched.job.faults.items fetched.job.settings)) }
     ensures fit { IfOk result (λ fetched. IsFit (job_of fetched.job.image fetched.job.input.items fetched.job.faults.items fetched.job.settings)) }
     ensures executable { IfOk result (λ fetched. IsContent (S.told store.old) Exe (Some command.now.executable.now) fetched.executable.items) }
@@ -81,30 +102,8 @@ pub fn fetch_job<S: Store>(
             settings: command.settings,
         },
         executable: file,
+        list,
     })
-}
-
-/// The same without the bytes of the executable's file.
-///
-/// # Errors
-/// The answer of a run whose files are bad.
-pub fn job_from<S: Store>(
-    alloc: Global,
-    command: &RunCommand<'_>,
-    store: &mut S,
-) -> Result<Job, Answer>
-    requires { Fits (to_run (run_by command.now)) }
-    ensures job { IfOk result (λ job. IsJobOf (S.told store.old) (run_by command.now) (job_of job.image job.input.items job.faults.items job.settings)) }
-    ensures can_run { IfOk result (λ job. CanRun (job_of job.image job.input.items job.faults.items job.settings)) }
-    ensures fit { IfOk result (λ job. IsFit (job_of job.image job.input.items job.faults.items job.settings)) }
-    ensures refused { IfErr result (JobCause (S.told store.old) (to_run (run_by command.now)) (S.failures store.old) (S.failures store.new)) }
-    ensures told { S.told store.new ≡ S.told store.old }
-    ensures calm { (result ≡ Err a.StoreFailed → ⊥) → S.failures store.new ≡ S.failures store.old }
-    ensures asked { IfOk result (λ _. AsksTo (S.told store.old) (to_run (run_by command.now)) (S.calls store.old) (S.calls store.new) Faults) }
-    ensures stops { IfErr result (AsksFor (S.told store.old) (to_run (run_by command.now)) (S.calls store.old) (S.calls store.new)) }
-{
-    let FetchedJob { job, executable: _ } = fetch_job(alloc, command, store)?;
-    Ok(job)
 }
 
 /// Fetches the plan that is to be followed, and on what: its executable first, then its input, then its journal. The causes are
@@ -129,6 +128,7 @@ pub fn replay_from<S: Store>(
     let input = fetch_named(store, alloc, FileKind::Input, command.input)?;
     let text = fetch(store, alloc, FileKind::Plan, command.plan)?;
     let journal = journal(alloc, text.as_slice())?;
+    same_files(journal.recorded, bytes.as_slice(), input.as_slice())?;
     Ok(Replay {
         image,
         input,

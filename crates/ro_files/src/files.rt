@@ -1,10 +1,11 @@
 //! The files that a command names.
-ghost use Rattle.std.specs.Prelude.{◌≡◌, ◌<◌, ◌≤◌, [], ◌∷◌, IfOk, IfErr, length, Ok, Err};
+ghost use Rattle.std.specs.Prelude.{◌≡◌, ◌<◌, ◌≤◌, [], ◌∷◌, IfOk, IfErr, IfSome, length, Ok, Err};
 ghost use Rattle.ro_report.specs.declared.answers.Answer.TheVariants as a;
 ghost use Rattle.std.specs.Option.{option_map};
 ghost use Rattle.ro_image.specs.Executable.{bad_code, image_of};
 ghost use Rattle.ro_faults.specs.Texts.{file_faults};
-ghost use Rattle.ro_journal_text.specs.Reading.{file_journal, journal_in};
+ghost use Rattle.ro_journal_text.specs.Records.{any_in, file_any};
+ghost use Rattle.ro_settings.specs.Ranges.{InRange};
 ghost use Rattle.ro_io.specs.Outside.{Asks, unfailed};
 ghost use Rattle.ro_files.specs.Files.{most_of, named, IsFile, IsContent};
 ghost use Rattle.ro_files.specs.Refusals.{RefusesFile, RefusesContent, RefusesExe, RefusesList, RefusesPlan};
@@ -12,7 +13,7 @@ ghost use Rattle.ro_files.specs.Refusals.{RefusesFile, RefusesContent, RefusesEx
 use ro_faults::{Fault, FaultsError, read_faults};
 use ro_image::{Executable, ImageError, read_executable};
 use ro_io::{FetchError, Store};
-use ro_journal_text::{FileJournal, JournalError, read_journal};
+use ro_journal_text::{AnyJournal, JournalError, read_any};
 use ro_report::{Answer, FileKind};
 use std::alloc::Global;
 
@@ -104,15 +105,16 @@ pub(crate) fn faults(alloc: Global, bytes: &[u8], replicas: u32) -> Result<Vec<F
     }
 }
 
-/// The journal of a text.
+/// The journal of a text in any version.
 ///
 /// # Errors
 /// `BadPlan` or `NoMemory`.
-pub fn journal(alloc: Global, bytes: &[u8]) -> Result<FileJournal, Answer>
-    ensures journal { IfOk result (λ journal. file_journal bytes.now ≡ Ok (journal_in journal)) }
+pub fn journal(alloc: Global, bytes: &[u8]) -> Result<AnyJournal, Answer>
+    ensures journal { IfOk result (λ journal. file_any bytes.now ≡ Ok (any_in journal)) }
+    ensures in_range { IfOk result (λ journal. IfSome journal.recorded (λ recorded. InRange recorded.settings)) }
     ensures refused { IfErr result (RefusesPlan bytes.now) }
 {
-    match read_journal(alloc, bytes) {
+    match read_any(alloc, bytes) {
         Ok(journal) => Ok(journal),
         Err(JournalError::Bad { line, code }) => Err(Answer::BadPlan { line, code }),
         Err(JournalError::NoMemory) => Err(Answer::NoMemory),

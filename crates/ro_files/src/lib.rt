@@ -2,8 +2,9 @@
 //! to be followed, or the executable for which faults are to be drawn.
 #![tactic(auto)]
 
+mod agreeing;
 mod asking;
 mod files;
 
-pub use asking::{FetchedJob, Job, Replay, fetch_job, image_from, job_from, replay_from};
+pub use asking::{FetchedJob, Job, Replay, fetch_job, image_from, replay_from};
 pub use files::{fetch, image, journal};

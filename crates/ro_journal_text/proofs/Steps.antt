@@ -1,5 +1,5 @@
 -- Reading a journal line by line.
-use Rattle.std.proofs.Common.{ℕ, true, false, ◌≡◌, ◌+◌, ◌<◌, ◌==◌, List, [], ◌∷◌, ◌++◌, Some, None, Result, Ok, Err, length, cond, arith, refl, sym, ap, ◌∙◌}
+use Rattle.std.proofs.Common.{ℕ, true, false, ◌≡◌, ◌+◌, ◌<◌, ◌==◌, List, [], ◌∷◌, ◌++◌, Some, None, Result, Ok, Err, is_ok, length, cond, arith, refl, sym, ap, ◌∙◌}
 use Rattle.std.proofs.lemmas.List.{append_assoc}
 use Rattle.std.proofs.lemmas.List.Splits.{length-slice_split}
 use Rattle.ro_text.specs.Lines.{parts_of}
@@ -10,6 +10,7 @@ use Rattle.ro_journal_text.specs.declared.errors.JournalError.{JournalError}
 use Rattle.ro_journal_text.specs.declared.errors.JournalError.TheVariants.{Bad, NoMemory}
 use Rattle.ro_journal_text.specs.declared.headings.Heading.{Heading}
 use Rattle.ro_journal_text.specs.declared.versions.Version.{Version}
+use Rattle.ro_journal_text.specs.Records.{mode_in, says_record}
 use Rattle.ro_journal_text.specs.Reading.{is_end, before, behind, in_line, line_entry, lines_entries, heading_of, version_of, mode_of, with_mode, journal_under, headed_journal, refuses}
 
 behind_behind : {A E : Type 0} (xs ys : List A) (read : Result (List A) E) → behind xs (behind ys read) ≡ behind (xs ++ ys) read
@@ -88,3 +89,11 @@ pub headed_refused : (first rest : List ℕ) (heading : Heading) (error : Journa
 headed_refused first rest heading NoMemory is refused = tt
 headed_refused first rest heading (Bad line code) is refused =
     headed_by first rest ∙ ap (λ o. journal_under o (parts_of rest)) (sym is) ∙ ap (with_mode (mode_of heading)) refused
+
+-- whether lines are those of a record
+says : (first : List ℕ) (parts : List (List ℕ)) → 0 < length parts → says_record (first ∷ parts) ≡ is_ok (mode_in first)
+says first [] some = absurd (omega (arith, some))
+says first (next ∷ parts) some = refl
+
+pub says_by : (bytes first rest : List ℕ) → parts_of bytes ≡ first ∷ parts_of rest → says_record (parts_of bytes) ≡ is_ok (mode_in first)
+says_by bytes first rest cut = ap says_record cut ∙ says first (parts_of rest) (omega (arith, length-slice_split (λ b. b == 10) rest))

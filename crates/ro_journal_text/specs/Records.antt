@@ -1,5 +1,5 @@
 -- The head of a record: of what run a journal is.
-use Rattle.std.specs.Prelude.{◌≡◌, ℕ, ◌==◌, List, [], ◌∷◌, ◌++◌, Option, Some, None, Result, Ok, Err, if◌then◌else◌, codes, decimal, length}
+use Rattle.std.specs.Prelude.{◌≡◌, ℕ, ◌==◌, Bool, false, List, [], ◌∷◌, ◌++◌, Option, Some, None, Result, Ok, Err, is_ok, if◌then◌else◌, codes, decimal, length}
 use Rattle.std.specs.Str.{bytes_eq}
 use Rattle.hex.specs.Hex.{IsBytes, encode_lower, decode_sized}
 use Rattle.hex.specs.declared.error.FromHexError.{FromHexError}
@@ -14,10 +14,11 @@ use Rattle.ro_journal_text.specs.declared.errors.JournalCode.TheVariants as bad
 use Rattle.ro_journal_text.specs.declared.errors.JournalError.{JournalError}
 use Rattle.ro_journal_text.specs.declared.errors.JournalError.TheVariants.{Bad}
 use Rattle.ro_journal.specs.declared.Entry.{Entry}
+use Rattle.ro_journal_text.specs.declared.files.AnyJournal.{AnyJournal}
 use Rattle.ro_journal_text.specs.declared.files.RecordedJournal.{RecordedJournal}
 use Rattle.ro_journal_text.specs.declared.versions.Version.TheVariants.{Second}
 use Rattle.ro_journal_text.specs.Texts.{entries_text}
-use Rattle.ro_journal_text.specs.Reading.{in_line, lines_entries}
+use Rattle.ro_journal_text.specs.Reading.{Journal, file_journal, in_line, lines_entries}
 
 -- Its text.
 
@@ -172,3 +173,32 @@ file_record bytes = behind_head (head_of (parts_of bytes))
 -- the text of a record
 abbrev pub record_text : Recorded → List Entry → List ℕ
 record_text recorded entries = head_text recorded ++ entries_text entries
+
+-- A text in any version.
+
+-- the first of the lines is that of a record
+abbrev pub says_record : List (List ℕ) → Bool
+says_record (first ∷ next ∷ parts) = is_ok (mode_in first)
+says_record _ = false
+
+-- a journal, and of what run it is, where its text says so
+pub record Any : Type 0 where
+  pub recorded : Option Recorded
+  pub mode : Mode
+  pub entries : List Entry
+
+-- one of the code
+abbrev pub any_in : AnyJournal → Any
+any_in journal = record { recorded = journal.recorded; mode = journal.mode; entries = journal.entries.items }
+
+abbrev pub of_record : Result Record JournalError → Result Any JournalError
+of_record (Ok told) = Ok (record { recorded = Some told.recorded; mode = told.recorded.settings.mode; entries = told.entries })
+of_record (Err error) = Err error
+
+abbrev pub of_journal : Result Journal JournalError → Result Any JournalError
+of_journal (Ok journal) = Ok (record { recorded = None; mode = journal.mode; entries = journal.entries })
+of_journal (Err error) = Err error
+
+-- the journal of a text, or its first bad line: it is read as a record where its first line is that of one
+abbrev pub file_any : List ℕ → Result Any JournalError
+file_any bytes = if says_record (parts_of bytes) then of_record (file_record bytes) else of_journal (file_journal bytes)

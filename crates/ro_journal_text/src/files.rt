@@ -1,15 +1,15 @@
 //! The texts of journals.
-ghost use Rattle.std.specs.Prelude.{◌≡◌, ◌≤◌, ◌∷◌, Ok, IfOk, IfErr};
+ghost use Rattle.std.specs.Prelude.{◌≡◌, ◌≤◌, ◌∷◌, Ok, IfOk, IfErr, IfSome};
 ghost use Rattle.ro_text.specs.Lines.{parts_of};
 ghost use Rattle.ro_journal_text.specs.Texts.{journal_text};
-ghost use Rattle.ro_journal_text.specs.Records.{file_record, record_in};
+ghost use Rattle.ro_journal_text.specs.Records.{any_in, file_any, file_record, of_journal, of_record, record_in};
 ghost use Rattle.ro_settings.specs.Ranges.{InRange};
 ghost use Rattle.ro_journal_text.specs.Reading.{refuses, file_journal, headed_journal, journal_in, lines_entries, is_end};
 
 use crate::entries::read_entry;
 use crate::errors::{JournalCode, JournalError};
 use crate::headings::{header, read_heading};
-use crate::heads::read_head;
+use crate::heads::{is_record, read_head};
 use crate::lines::entry_text;
 use crate::records::{FIRST_ENTRY, Recorded};
 use crate::versions::Version;
@@ -30,6 +30,16 @@ pub struct FileJournal {
 #[derive(Drop)]
 pub struct RecordedJournal {
     pub recorded: Recorded,
+    pub entries: Vec<Entry>,
+}
+
+/// The journal of a text in any version.
+#[derive(Drop)]
+pub struct AnyJournal {
+    /// Of what run it is, where the text says so.
+    pub recorded: Option<Recorded>,
+    /// The mode of the run.
+    pub mode: Mode,
     pub entries: Vec<Entry>,
 }
 
@@ -76,6 +86,50 @@ pub fn read_record(alloc: Global, bytes: &[u8]) -> Result<RecordedJournal, Journ
     let (recorded, rest) = read_head(bytes)?;
     let entries = read_entries(alloc, rest, Version::Second, FIRST_ENTRY)?;
     Ok(RecordedJournal { recorded, entries })
+}
+
+/// Reads a text in any version: as `read_record` does where its first line is that of a record, else as `read_journal` does.
+///
+/// # Errors
+/// The number of the first bad line and what is bad in it, or `NoMemory`.
+pub fn read_any(alloc: Global, bytes: &[u8]) -> Result<AnyJournal, JournalError>
+    ensures read { IfOk result (λ journal. file_any bytes.now ≡ Ok (any_in journal)) }
+    ensures refused { IfErr result (λ error. refuses error (file_any bytes.now)) }
+    ensures in_range { IfOk result (λ journal. IfSome journal.recorded (λ recorded. InRange recorded.settings)) }
+{
+    if is_record(bytes) {
+        record_of(alloc, bytes)
+    } else {
+        journal_of(alloc, bytes)
+    }
+}
+
+// The journal of a record.
+fn record_of(alloc: Global, bytes: &[u8]) -> Result<AnyJournal, JournalError>
+    ensures read { IfOk result (λ journal. of_record (file_record bytes.now) ≡ Ok (any_in journal)) }
+    ensures refused { IfErr result (λ error. refuses error (of_record (file_record bytes.now))) }
+    ensures in_range { IfOk result (λ journal. IfSome journal.recorded (λ recorded. InRange recorded.settings)) }
+{
+    let RecordedJournal { recorded, entries } = read_record(alloc, bytes)?;
+    Ok(AnyJournal {
+        recorded: Some(recorded),
+        mode: recorded.settings.mode,
+        entries,
+    })
+}
+
+// The journal of a text of an older version.
+fn journal_of(alloc: Global, bytes: &[u8]) -> Result<AnyJournal, JournalError>
+    ensures read { IfOk result (λ journal. of_journal (file_journal bytes.now) ≡ Ok (any_in journal)) }
+    ensures refused { IfErr result (λ error. refuses error (of_journal (file_journal bytes.now))) }
+    ensures in_range { IfOk result (λ journal. IfSome journal.recorded (λ recorded. InRange recorded.settings)) }
+{
+    let FileJournal { mode, entries } = read_journal(alloc, bytes)?;
+    Ok(AnyJournal {
+        recorded: None,
+        mode,
+        entries,
+    })
 }
 
 // The journal behind a first line.

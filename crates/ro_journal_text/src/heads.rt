@@ -4,7 +4,7 @@ ghost use Rattle.ro_settings.specs.Ranges.{InRange, IsIn, IsReplicas, range_of};
 ghost use Rattle.ro_settings.specs.declared.Mode.{Mode};
 ghost use Rattle.ro_text.specs.Lines.{parts_of, words_of};
 ghost use Rattle.ro_journal_text.specs.declared.errors.JournalError.{JournalError};
-ghost use Rattle.ro_journal_text.specs.Records.{Headed, at_line, digest_in, head_of, mode_in, number_in, replicas_in, value_behind};
+ghost use Rattle.ro_journal_text.specs.Records.{Headed, at_line, digest_in, head_of, mode_in, number_in, replicas_in, says_record, value_behind};
 
 use crate::errors::{JournalCode, JournalError};
 use crate::records::{DIGEST_BYTES, Recorded};
@@ -48,6 +48,17 @@ pub fn read_head(bytes: &[u8]) -> Result<(Recorded, &[u8]), JournalError>
         faults,
     };
     Ok((recorded, rest))
+}
+
+/// Whether the first line of a text is that of a record.
+#[tactic(auto, using(crate::proofs::Steps::says_by))]
+pub fn is_record(bytes: &[u8]) -> bool
+    ensures { result ≡ says_record (parts_of bytes.now) }
+{
+    match first_line(bytes) {
+        Some((first, _)) => read_mode(first).is_ok(),
+        None => false,
+    }
 }
 
 // The mode of the first line, and what stands behind the line.

@@ -23,9 +23,11 @@ mod versions;
 mod words;
 
 pub use errors::{JournalCode, JournalError};
-pub use files::{FileJournal, RecordedJournal, journal_text, read_journal, read_record};
+pub use files::{
+    AnyJournal, FileJournal, RecordedJournal, journal_text, read_any, read_journal, read_record,
+};
 pub use headings::{Heading, header};
-pub use heads::read_head;
+pub use heads::{is_record, read_head};
 pub use laws::{heads_read_back, records_read_back, texts_read_back, texts_spelled_once};
 pub use lines::entry_text;
 pub use records::{DIGEST_BYTES, FIRST_ENTRY, Recorded, head_text};

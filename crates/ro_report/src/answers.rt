@@ -1,6 +1,6 @@
 //! The answer of a command.
 ghost use Rattle.std.specs.Prelude.{◌≡◌, ◌≤◌, ◌++◌, length, codes, decimal};
-ghost use Rattle.ro_report.specs.Report.{answer_text};
+ghost use Rattle.ro_report.specs.Report.{answer_text, head_word};
 
 use ro_elf::ExeError;
 use ro_event::TrapCause;
@@ -19,6 +19,20 @@ pub enum FileKind {
     Faults,
     /// The journal whose plan is to be followed.
     Plan,
+}
+
+/// A line of a record's head that says a number or a digest.
+#[derive(Clone, Copy, Debug, PartialEq, Eq)]
+pub enum HeadLine {
+    Replicas,
+    Drivers,
+    Watchdog,
+    Quantum,
+    Limit,
+    Scrub,
+    Exe,
+    Input,
+    Faults,
 }
 
 /// How a command ended.
@@ -49,6 +63,8 @@ pub enum Answer {
     BadFaults { line: u32, code: FaultsCode },
     /// The journal of a plan is bad in this line.
     BadPlan { line: u64, code: JournalCode },
+    /// The record that the command names is of another run: what the command says is not what this line of its head says.
+    Other(HeadLine),
     /// The plan's step at this place, counted from 0, does not exist.
     NoStep { place: u64 },
     /// No step of the plan has a race.
@@ -84,12 +100,41 @@ pub fn answer_line(answer: &Answer) -> Line
         Answer::BadPlan { line, code } => {
             twice_numbered("answer plan ", line, u64::from(code.code()))
         }
+        Answer::Other(line) => other(line),
         Answer::NoStep { place } => numbered("answer no-step ", place),
         Answer::NoRace => fixed("answer no-race"),
         Answer::Race { i, j, byte } => thrice_numbered("answer race ", i, j, byte),
         Answer::BadWords => fixed("answer words"),
         Answer::TooLong(_) => fixed("answer too-long"),
         Answer::NoMemory => fixed("answer no-memory"),
+    }
+}
+
+// The line of an answer that names a line of a record's head.
+fn other(line: HeadLine) -> Line
+    ensures { result ≡ codes "answer other " ++ head_word line ++ codes "\n" }
+{
+    let mut text = Text::new();
+    text.push("answer other ");
+    text.push(head_word(line));
+    text.end()
+}
+
+// The name of a line of a record's head.
+fn head_word(line: HeadLine) -> &'static str
+    ensures word { result.now ≡ head_word line }
+    ensures short { length result.now ≤ 8 }
+{
+    match line {
+        HeadLine::Replicas => "replicas",
+        HeadLine::Drivers => "drivers",
+        HeadLine::Watchdog => "watchdog",
+        HeadLine::Quantum => "quantum",
+        HeadLine::Limit => "limit",
+        HeadLine::Scrub => "scrub",
+        HeadLine::Exe => "exe",
+        HeadLine::Input => "input",
+        HeadLine::Faults => "faults",
     }
 }
 

@@ -7,8 +7,7 @@ use Rattle.ro_journal.specs.declared.Entry.{Entry}
 use Rattle.ro_journal.specs.declared.Entry.TheVariants.{Vote, Scrub}
 use Rattle.ro_journal.specs.Plan.{outcome_of}
 use Rattle.ro_plans.specs.Plans.{plan_in}
-use Rattle.ro_journal_text.specs.Reading.{Journal, file_journal}
-use Rattle.ro_report.specs.declared.answers.FileKind.TheVariants.{Plan}
+use Rattle.ro_journal_text.specs.Records.{Any}
 use Rattle.ro_io.specs.Outside.{Files}
 use Rattle.ro_legal.specs.Core.{Job}
 use Rattle.ro_legal.specs.Modes.{Mode, InMode, Suits}
@@ -18,8 +17,8 @@ use Rattle.ro_core.specs.Seen.{EndsByScrub, ShowsViews}
 use Rattle.ro_coop_core.specs.Seen.{ShowsViews as ShowsUnlike}
 use Rattle.ro_cores.specs.Loans.{IsJoined}
 use Rattle.ro_audit.specs.Audits.{FirstIllegal, NextUpTo}
-use Rattle.ro_files.specs.Files.{IsContent, IsJobOf}
-use Rattle.ro_words.specs.Commands.{AskedRun}
+use Rattle.ro_tell.specs.Agreeing.{IsAudited}
+use Rattle.ro_words.specs.Commands.{AskedAudit}
 use Rattle.ro_findings.specs.declared.findings.Ended.{Ended}
 use Rattle.ro_findings.specs.declared.findings.Ended.TheVariants.{Exit, Deadlock, Trap, Limit, Differ, NoMajority, Sink}
 use Rattle.ro_findings.specs.declared.findings.Split.{Split}
@@ -35,12 +34,6 @@ use Rattle.ro_findings.specs.declared.findings.Odd.{Odd}
 -- the same job, to be run in the mode
 abbrev pub job_in : Mode → Job → Job
 job_in mode job = record job { settings = record job.settings { mode = mode } }
-
--- The journal of the file of this name. Its first line says in which mode its run was, and the job has nothing that such a run has none
--- of.
-abbrev pub IsJournalOf : Option Files → (name : List ℕ) → Job → Journal → Type 0
-IsJournalOf files name job journal =
-    (text : List ℕ) × IsContent files Plan (Some name) text × (file_journal text ≡ Ok journal) × Suits journal.mode job
 
 -- the end that is told with more beside it
 abbrev pub how_of : Ended → How
@@ -129,7 +122,9 @@ pub record Finds (job : Job) (entries : List Entry) (findings : Findings) : Type
   pub judged : Judges job entries findings.verdict
   pub copies : map copied_of findings.copies.items ≡ copies_from 0 (allowed_in findings.verdict entries)
 
--- The journal of this name was judged, of the job that the files of the run make, in the journal's mode, and this was found.
-abbrev pub IsAuditOf : Option Files → AskedRun → (name : List ℕ) → Findings → Type 0
-IsAuditOf files run name findings =
-    (job : Job) × (journal : Journal) × IsJobOf files run job × IsJournalOf files name job journal × Finds (job_in journal.mode job) journal.entries findings
+-- the journal of an audit was judged, of a job in the journal's mode, and this was found
+pub record IsAuditOf (files : Option Files) (asked : AskedAudit) (findings : Findings) : Type 0 where
+  pub journal : Any
+  pub job : Job
+  pub audited : IsAudited files asked journal job
+  pub finds : Finds (job_in journal.mode job) journal.entries findings

@@ -1,2 +1,3 @@
-pub mod Judging
+pub mod Agreeing
 pub mod Causes
+pub mod Judging

@@ -3,14 +3,13 @@ ghost use Rattle.std.specs.Prelude.{◌≡◌, ◌<◌, ◌↔◌, ◌∷◌, []
 ghost use Rattle.std.specs.String.{string_bytes};
 ghost use Rattle.ro_io.specs.Outside.{Asks, unfailed};
 ghost use Rattle.ro_journal.specs.declared.How.{How as HowSeen};
-ghost use Rattle.ro_journal_text.specs.Reading.{file_journal, journal_in};
 ghost use Rattle.ro_settings.specs.Ranges.{InRange};
 ghost use Rattle.ro_settings.specs.declared.Mode.TheVariants.{Voted, Cooperative};
 ghost use Rattle.ro_legal.specs.Core.{Job as JobSeen};
 ghost use Rattle.ro_legal.specs.Modes.{Suits};
 ghost use Rattle.ro_legal.specs.Rules.{IsFit};
 ghost use Rattle.ro_report.specs.declared.answers.Answer.TheVariants as a;
-ghost use Rattle.ro_words.specs.Commands.{AskedAudit, audit_of, run_by};
+ghost use Rattle.ro_words.specs.Commands.{AskedAudit, AuditFits, audit_by, audit_of};
 ghost use Rattle.ro_words.specs.Uses.{texts_of};
 ghost use Rattle.ro_words.specs.declared.commands.WordsError.TheVariants as w;
 ghost use Rattle.ro_legal.specs.Jobs.{job_of, CanRun};
@@ -18,22 +17,23 @@ ghost use Rattle.ro_audit.specs.Audits.{FirstIllegal, NextUpTo, Tells};
 ghost use Rattle.ro_audit.specs.Following.{IsTrail};
 ghost use Rattle.ro_findings.specs.Sentences.{TellsVerdict};
 ghost use Rattle.ro_tell.specs.declared.commands.Form.TheVariants as f;
-ghost use Rattle.ro_tell.specs.Causes.{AuditCause, RefusesJournal, RefusesText, WordsCause, audit_names};
-ghost use Rattle.ro_tell.specs.Judging.{Finds, IsAuditOf, IsJournalOf, TellsNext, TellsSplit, how_of, job_in};
+ghost use Rattle.ro_tell.specs.Causes.{AuditCause, WordsCause, audit_names};
+ghost use Rattle.ro_tell.specs.Judging.{Finds, IsAuditOf, TellsNext, TellsSplit, how_of, job_in};
 
+use crate::asking::{FetchedAudit, fetch_audit};
 use crate::copies::{copies_made, differences};
 use crate::fields::{Unlike, ends_split, split_of};
 use crate::standing::Stood;
 use ro_audit::{AuditCore, AuditError, Audited, Difference, Trail, Why, trace};
 use ro_faults::Fault;
-use ro_files::{FetchedJob, Job, fetch, fetch_job, journal};
+use ro_files::{FetchedJob, Job};
 use ro_findings::{Ended, Findings, Odd, Split, Verdict};
 use ro_io::Store;
 use ro_journal::{Entry, How};
-use ro_journal_text::{FileJournal, header};
-use ro_report::{Answer, FileKind, JournalCode};
+use ro_journal_text::AnyJournal;
+use ro_report::Answer;
 use ro_settings::{Mode, Settings};
-use ro_words::{AuditCommand, RunCommand, WordsError, parse_audit};
+use ro_words::{AuditCommand, WordsError, parse_audit};
 use std::alloc::{AllocError, Global};
 
 /// In which form an audit is told.
@@ -57,13 +57,13 @@ pub struct Judged {
 /// # Errors
 /// The answer of a run whose words or files are bad. Words that spell no audit are answered before the store is asked for anything.
 pub fn audit_words<S: Store>(alloc: Global, words: &[&str], store: &mut S) -> Result<Judged, Answer>
-    ensures judged { IfOk result (λ judged. (asked : AskedAudit) × (audit_of (texts_of words.now) ≡ Some asked) × IsAuditOf (S.told store.old) asked.run asked.journal judged.findings × Asks (S.calls store.old) (S.calls store.new) (unfailed (audit_names asked.run asked.journal)) × (asked.json ≡ false → TellsVerdict judged.findings.verdict (string_bytes judged.text))) }
+    ensures judged { IfOk result (λ judged. (asked : AskedAudit) × (audit_of (texts_of words.now) ≡ Some asked) × IsAuditOf (S.told store.old) asked judged.findings × Asks (S.calls store.old) (S.calls store.new) (unfailed (audit_names asked)) × (asked.json ≡ false → TellsVerdict judged.findings.verdict (string_bytes judged.text))) }
     ensures refused { IfErr result (WordsCause (S.told store.old) (texts_of words.now) (S.failures store.old) (S.failures store.new) (S.calls store.old) (S.calls store.new)) }
     ensures told { S.told store.new ≡ S.told store.old }
     ensures calm { (result ≡ Err a.StoreFailed → ⊥) → S.failures store.new ≡ S.failures store.old }
 {
     match parse_audit(alloc, words) {
-        Ok(audit) => { audit_files(alloc, &audit.run, audit.journal, form_of(&audit), store) }
+        Ok(audit) => audit_files(alloc, &audit, form_of(&audit), store),
         Err(error) => Err(answer_of(error)),
     }
 }
@@ -91,27 +91,26 @@ fn answer_of(error: WordsError) -> Answer
     }
 }
 
-/// Audits the journal of a file, which is said to be of a run, and tells what is found in a form. The mode of the run is that of
-/// the journal's first line, whatever the settings say.
+/// Audits a journal, and tells what is found in a form. Where it is a record it is judged by the settings of its head, and else by
+/// those that are said, in the mode of its first line.
 ///
 /// # Errors
 /// The answer of a run whose files are bad.
 pub fn audit_files<S: Store>(
     alloc: Global,
-    run: &RunCommand<'_>,
-    name: &str,
+    audit: &AuditCommand<'_>,
     form: Form,
     store: &mut S,
 ) -> Result<Judged, Answer>
-    requires { InRange run.now.settings × (run.now.settings.mode ≡ Mode.Voted) }
-    ensures judged { IfOk result (λ judged. IsAuditOf (S.told store.old) (run_by run.now) name.now judged.findings) }
+    requires { AuditFits (audit_by audit.now) }
+    ensures judged { IfOk result (λ judged. IsAuditOf (S.told store.old) (audit_by audit.now) judged.findings) }
     ensures sentences { form ≡ f.Sentences → IfOk result (λ judged. TellsVerdict judged.findings.verdict (string_bytes judged.text)) }
-    ensures asked { IfOk result (λ _. Asks (S.calls store.old) (S.calls store.new) (unfailed (audit_names (run_by run.now) name.now))) }
-    ensures refused { IfErr result (AuditCause (S.told store.old) (run_by run.now) name.now (S.failures store.old) (S.failures store.new) (S.calls store.old) (S.calls store.new)) }
+    ensures asked { IfOk result (λ _. Asks (S.calls store.old) (S.calls store.new) (unfailed (audit_names (audit_by audit.now)))) }
+    ensures refused { IfErr result (AuditCause (S.told store.old) (audit_by audit.now) (S.failures store.old) (S.failures store.new) (S.calls store.old) (S.calls store.new)) }
     ensures told { S.told store.new ≡ S.told store.old }
     ensures calm { (result ≡ Err a.StoreFailed → ⊥) → S.failures store.new ≡ S.failures store.old }
 {
-    let findings = find(alloc, run, name, store)?;
+    let findings = find(alloc, audit, store)?;
     match told(alloc, &findings, form) {
         Ok(text) => Ok(Judged { findings, text }),
         Err(_) => Err(Answer::NoMemory),
@@ -128,69 +127,33 @@ fn told(alloc: Global, findings: &Findings, form: Form) -> Result<String, AllocE
     }
 }
 
-/// Finds what is to be told of the journal of a file, which is said to be of a run in the mode of the journal's first line. The
-/// files of the run are fetched first, and then the journal's: each once, and none after one that is refused.
+/// Finds what is to be told of a journal. Its file is fetched first, and then the files of the run: each once, and none after one
+/// that is refused, or after a record that says something else than the audit does.
 ///
 /// # Errors
-/// The answer of a run whose files are bad.
+/// The answer of a run whose files are bad, or `Other`.
 pub fn find<S: Store>(
     alloc: Global,
-    run: &RunCommand<'_>,
-    name: &str,
+    audit: &AuditCommand<'_>,
     store: &mut S,
 ) -> Result<Findings, Answer>
-    requires { InRange run.now.settings × (run.now.settings.mode ≡ Mode.Voted) }
-    ensures found { IfOk result (IsAuditOf (S.told store.old) (run_by run.now) name.now) }
-    ensures asked { IfOk result (λ _. Asks (S.calls store.old) (S.calls store.new) (unfailed (audit_names (run_by run.now) name.now))) }
-    ensures refused { IfErr result (AuditCause (S.told store.old) (run_by run.now) name.now (S.failures store.old) (S.failures store.new) (S.calls store.old) (S.calls store.new)) }
+    requires { AuditFits (audit_by audit.now) }
+    ensures found { IfOk result (IsAuditOf (S.told store.old) (audit_by audit.now)) }
+    ensures asked { IfOk result (λ _. Asks (S.calls store.old) (S.calls store.new) (unfailed (audit_names (audit_by audit.now)))) }
+    ensures refused { IfErr result (AuditCause (S.told store.old) (audit_by audit.now) (S.failures store.old) (S.failures store.new) (S.calls store.old) (S.calls store.new)) }
     ensures told { S.told store.new ≡ S.told store.old }
     ensures calm { (result ≡ Err a.StoreFailed → ⊥) → S.failures store.new ≡ S.failures store.old }
 {
-    let FetchedJob { job, executable } = fetch_job(alloc, run, store)?;
-    let journal = fetch_journal(alloc, name, &job, store)?;
+    let FetchedAudit { journal, fetched } = fetch_audit(alloc, audit, store)?;
+    let FetchedJob {
+        job,
+        executable,
+        list: _,
+    } = fetched;
     match judge(alloc, job, executable.as_slice(), &journal) {
         Ok(findings) => Ok(findings),
         Err(_) => Err(Answer::NoMemory),
     }
-}
-
-// The journal of a file, which a run of this job may have.
-fn fetch_journal<S: Store>(
-    alloc: Global,
-    name: &str,
-    job: &Job,
-    store: &mut S,
-) -> Result<FileJournal, Answer>
-    ensures journal { IfOk result (λ journal. IsJournalOf (S.told store.old) name.now (job_of job.now.image job.now.input.items job.now.faults.items job.now.settings) (journal_in journal)) }
-    ensures asked { IfOk result (λ _. Asks (S.calls store.old) (S.calls store.new) (unfailed (name.now ∷ []))) }
-    ensures refused { IfErr result (RefusesJournal (S.told store.old) name.now (job_of job.now.image job.now.input.items job.now.faults.items job.now.settings) (S.failures store.old) (S.failures store.new) (S.calls store.old) (S.calls store.new)) }
-    ensures told { S.told store.new ≡ S.told store.old }
-    ensures calm { (result ≡ Err a.StoreFailed → ⊥) → S.failures store.new ≡ S.failures store.old }
-{
-    let file = fetch(store, alloc, FileKind::Plan, name)?;
-    suited_journal(alloc, file.as_slice(), job)
-}
-
-// The journal of a text. The first line of a cooperative run is as bad as any other where the job has faults or scrubs.
-fn suited_journal(alloc: Global, text: &[u8], job: &Job) -> Result<FileJournal, Answer>
-    ensures journal { IfOk result (λ journal. file_journal text.now ≡ Ok (journal_in journal)) }
-    ensures suits { IfOk result (λ journal. Suits journal.mode (job_of job.now.image job.now.input.items job.now.faults.items job.now.settings)) }
-    ensures refused { IfErr result (RefusesText (job_of job.now.image job.now.input.items job.now.faults.items job.now.settings) text.now) }
-{
-    if text.starts_with(header(Mode::Cooperative)) && !may_cooperate(job) {
-        return Err(Answer::BadPlan {
-            line: 1,
-            code: JournalCode::Form,
-        });
-    }
-    journal(alloc, text)
-}
-
-// Whether a job has neither faults nor scrubs.
-fn may_cooperate(job: &Job) -> bool
-    ensures { IsTrue result ↔ Suits Cooperative (job_of job.now.image job.now.input.items job.now.faults.items job.now.settings) }
-{
-    job.faults.is_empty() && job.settings.scrub == 0
 }
 
 // Follows the journal of a job's run in the journal's mode, and finds what came of it.
@@ -198,7 +161,7 @@ fn judge(
     alloc: Global,
     job: Job,
     executable: &[u8],
-    journal: &FileJournal,
+    journal: &AnyJournal,
 ) -> Result<Findings, AllocError>
     requires can_run { CanRun (job_of job.image job.input.items job.faults.items job.settings) }
     requires suits { Suits journal.now.mode (job_of job.image job.input.items job.faults.items job.settings) }

@@ -2,6 +2,8 @@
 //! comes to is found.
 #![tactic(auto)]
 
+mod agreeing;
+mod asking;
 mod commands;
 mod copies;
 mod fields;

@@ -17,7 +17,7 @@ use Rattle.ro_legal.proofs.Served.{Tidy, tidy_end, serve-tidy}
 use Rattle.ro_simulation.specs.Theorem.{IsComplete, by_exit, by_trap, by_deadlock}
 use Rattle.ro_machine.specs.Plans.{RunsPlan, EndsAs}
 use Rattle.ro_report.specs.declared.answers.Answer.{Answer}
-use Rattle.ro_report.specs.declared.answers.Answer.TheVariants.{Exit, Deadlock, Trap, Unended, Differ, NoMajority, Limit, SinkFailed, StoreFailed, BadExe, BadFaults, BadPlan, NoStep, NoRace, Race, BadWords, TooLong, NoMemory}
+use Rattle.ro_report.specs.declared.answers.Answer.TheVariants.{Exit, Deadlock, Trap, Unended, Differ, NoMajority, Limit, SinkFailed, StoreFailed, BadExe, BadFaults, BadPlan, Other, NoStep, NoRace, Race, BadWords, TooLong, NoMemory}
 use Rattle.ro_top.specs.Ends.{CamePlain, RanWhole, PlanCause, IsOutcome, AnswersEnd}
 
 -- ---- a machine that was run ends by an exit or a trap, if it ends
@@ -114,6 +114,7 @@ module _ (came : CamePlain) (program : Program) (mode : Mode) (journal : List En
   complete_cause how (BadExe code) done is ran = absurd (let f : Some how ≡ None = is in cc)
   complete_cause how (BadFaults line code) done is ran = absurd (let f : Some how ≡ None = is in cc)
   complete_cause how (BadPlan line code) done is ran = absurd (let f : Some how ≡ None = is in cc)
+  complete_cause how (Other line) done is ran = absurd (let f : Some how ≡ None = is in cc)
   complete_cause how (NoStep place) done is ran = absurd is
   complete_cause how NoRace done is ran = absurd is
   complete_cause how (Race i j byte) done is ran = absurd is

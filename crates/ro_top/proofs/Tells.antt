@@ -1,10 +1,10 @@
 -- What a sink took of a text.
-use Rattle.std.proofs.Common.{◌≡◌, ℕ, Bool, true, false, true≢false, List, [], ◌∷◌, ◌++◌, ◌-◌, length, take, drop, Option, Some, None, Result, Ok, Err, OnOk, OnErr, arith, refl, sym, ap, ◌∙◌, subst, append_assoc}
+use Rattle.std.proofs.Common.{◌≡◌, ℕ, List, [], ◌∷◌, ◌++◌, ◌-◌, length, take, drop, Option, Some, None, Result, Ok, Err, OnOk, OnErr, arith, refl, sym, ap, ◌∙◌, subst, append_assoc}
 use Rattle.std.proofs.lemmas.List.{append-nil, take-append-drop, take_all, length-drop}
 use Rattle.ro_io.specs.Outside.{more}
 use Rattle.ro_journal.specs.declared.Entry.{Entry}
 use Rattle.ro_settings.specs.declared.Mode.{Mode}
-use Rattle.ro_journal_text.specs.Texts.{entry_text, entries_text, journal_text}
+use Rattle.ro_journal_text.specs.Texts.{entry_text, entries_text}
 use Rattle.ro_report.specs.Report.{journal_part, report_text, answer_text}
 use Rattle.ro_report.specs.declared.answers.Answer.{Answer}
 use Rattle.ro_top.specs.Top.{TakesFront, summary_part}
@@ -70,8 +70,12 @@ pub entry_front : (old held new : Option (List ℕ)) (journal rest behind : List
 entry_front old held new journal rest behind given entry is e told t =
     subst (TakesFront old new) (sym (entry_more journal rest behind given entry is e)) (front_longer old new (given ++ entry_text entry) (entries_text behind) (front_behind old held new given (entry_text entry) told t))
 
--- a journal that is shown
-pub shown_journal : (mode : Mode) (shown : Bool) (journal : List Entry) → shown ≡ true → (journal ≡ [] → ⊥) → journal_text mode journal ≡ journal_part mode shown journal
-shown_journal mode false journal is some = absurd (true≢false (sym is))
-shown_journal mode true [] is some = absurd (some refl)
-shown_journal mode true (entry ∷ journal) is some = refl
+-- a journal that is shown behind a head
+pub shown_journal : (head : List ℕ) (journal : List Entry) → (journal ≡ [] → ⊥) → head ++ entries_text journal ≡ journal_part journal (Some head)
+shown_journal head [] some = absurd (some refl)
+shown_journal head (entry ∷ journal) some = refl
+
+-- one that is not
+pub no_journal : (journal : List Entry) → journal_part journal None ≡ []
+no_journal [] = refl
+no_journal (entry ∷ journal) = refl

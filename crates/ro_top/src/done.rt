@@ -92,5 +92,6 @@ fn status_of(told: Told, answer: &Answer) -> u8
         Answer::BadPlan { .. } => 253,
         Answer::NoStep { .. } => 254,
         Answer::NoRace => 0,
+        Answer::Other(_) => 238,
     }
 }

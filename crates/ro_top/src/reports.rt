@@ -6,20 +6,20 @@ ghost use Rattle.ro_journal_text.specs.Texts.{entries_text};
 ghost use Rattle.ro_journal.specs.Counts.{struck_in};
 ghost use Rattle.ro_plans.specs.Plans.{plan_in};
 ghost use Rattle.ro_report.specs.Report.{answer_text, journal_part, report_text, report_of};
-ghost use Rattle.ro_top.specs.Top.{TakesFront, IsTold, is_whole, plain_part, plain_report, summary_part};
+ghost use Rattle.ro_top.specs.Top.{TakesFront, IsTold, is_whole, plain_part, plain_report, summary_part, text_in};
 ghost use Rattle.ro_top.specs.declared.done.Told.TheVariants as told;
 
 use crate::done::Told;
 use ro_io::{Failed, Sink};
 use ro_journal::Entry;
-use ro_report::{Answer, answer_line, entry_text, header, plain_line, summary};
+use ro_report::{Answer, answer_line, entry_text, plain_line, summary};
 use ro_settings::Mode;
 
-// Tells the report of a run that wrote so many bytes.
+// Tells the report of a run that wrote so many bytes, with its journal behind the head, where that is there.
 pub(crate) fn tell<E: Sink>(
     report: &mut E,
     mode: Mode,
-    shown: bool,
+    head: Option<&[u8]>,
     journal: &[Entry],
     bytes: u64,
     answer: &Answer,
@@ -27,11 +27,11 @@ pub(crate) fn tell<E: Sink>(
     requires unfailed { E.failures report.old ≡ 0 }
     requires struck { struck_in journal.now < 2 ^ 64 }
     requires steps { length (plan_in mode journal.now) < 2 ^ 64 }
-    ensures told { IsTold result (E.held report.old) (E.held report.new) (report_of mode shown journal.now bytes answer.now) }
+    ensures told { IsTold result (E.held report.old) (E.held report.new) (report_of mode (text_in head.entry) journal.now bytes answer.now) }
     ensures cause { result ≡ told.Failed → Rose (E.failures report.old) (E.failures report.new) }
     ensures calm { result ≡ told.Whole → E.failures report.new ≡ E.failures report.old }
 {
-    match give_report(report, mode, shown, journal, bytes, answer) {
+    match give_report(report, mode, head, journal, bytes, answer) {
         Ok(()) => Told::Whole,
         Err(Failed) => Told::Failed,
     }
@@ -108,7 +108,7 @@ fn is_whole(answer: &Answer) -> bool
 fn give_report<E: Sink>(
     report: &mut E,
     mode: Mode,
-    shown: bool,
+    head: Option<&[u8]>,
     journal: &[Entry],
     bytes: u64,
     answer: &Answer,
@@ -116,34 +116,38 @@ fn give_report<E: Sink>(
     requires unfailed { E.failures report.old ≡ 0 }
     requires struck { struck_in journal.now < 2 ^ 64 }
     requires steps { length (plan_in mode journal.now) < 2 ^ 64 }
-    ensures ok { OnOk result (E.held report.new ≡ more (E.held report.old) (report_of mode shown journal.now bytes answer.now)) }
-    ensures err { OnErr result (TakesFront (E.held report.old) (E.held report.new) (report_of mode shown journal.now bytes answer.now)) }
+    ensures ok { OnOk result (E.held report.new ≡ more (E.held report.old) (report_of mode (text_in head.entry) journal.now bytes answer.now)) }
+    ensures err { OnErr result (TakesFront (E.held report.old) (E.held report.new) (report_of mode (text_in head.entry) journal.now bytes answer.now)) }
     ensures cause { OnErr result (Rose (E.failures report.old) (E.failures report.new)) }
     ensures calm { OnOk result (E.failures report.new ≡ E.failures report.old) }
 {
-    give_journal(report, mode, shown, journal)?;
+    give_journal(report, head, journal)?;
     give_lines(report, mode, journal, bytes, answer)
 }
 
-// The journal, where it is to be shown and anything ran.
+// The journal behind its head, where it is to be shown and anything ran.
 fn give_journal<E: Sink>(
     report: &mut E,
-    mode: Mode,
-    shown: bool,
+    head: Option<&[u8]>,
     journal: &[Entry],
 ) -> Result<(), Failed>
     requires unfailed { E.failures report.old ≡ 0 }
-    ensures ok { OnOk result (E.held report.new ≡ more (E.held report.old) (journal_part mode shown journal.now)) }
-    ensures err { OnErr result (TakesFront (E.held report.old) (E.held report.new) (journal_part mode shown journal.now)) }
+    ensures ok { OnOk result (E.held report.new ≡ more (E.held report.old) (journal_part journal.now (text_in head.entry))) }
+    ensures err { OnErr result (TakesFront (E.held report.old) (E.held report.new) (journal_part journal.now (text_in head.entry))) }
     ensures cause { OnErr result (Rose (E.failures report.old) (E.failures report.new)) }
     ensures calm { OnOk result (E.failures report.new ≡ E.failures report.old) }
     ensures failures { E.failures report.old ≤ E.failures report.new }
 {
-    if !shown || journal.is_empty() {
+    if journal.is_empty() {
         return Ok(());
     }
-    give_all(report, header(mode))?;
-    give_entries(report, journal)
+    match head {
+        Some(head) => {
+            give_all(report, head)?;
+            give_entries(report, journal)
+        }
+        None => Ok(()),
+    }
 }
 
 // A line for each entry.

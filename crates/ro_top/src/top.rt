@@ -1,16 +1,20 @@
 //! The call that does it all.
-ghost use Rattle.std.specs.Prelude.{◌≡◌, ◌≢◌, ◌⊎◌, ℕ, [], None, Option, Some};
+ghost use Rattle.std.specs.Prelude.{◌≡◌, ◌≢◌, ◌⊎◌, ℕ, [], IfOk, None, Option, Some, option_map};
 ghost use Rattle.ro_io.specs.Outside.{Files, Rose};
 ghost use Rattle.ro_journal.specs.Plan.{outcome_of};
-ghost use Rattle.ro_report.specs.Report.{answer_text, report_of};
+ghost use Rattle.ro_journal_text.specs.declared.records.Recorded.{Recorded};
+ghost use Rattle.ro_legal.specs.Jobs.{CanRun, job_of};
+ghost use Rattle.ro_legal.specs.Rules.{IsFit};
+ghost use Rattle.ro_report.specs.Report.{answer_text, journal_part, report_of};
 ghost use Rattle.ro_report.specs.declared.answers.Answer.TheVariants as a;
 ghost use Rattle.ro_words.specs.Commands.{Asked, AskedBench, AskedInject, AskedPlan, AskedRun, Fits, bench_by, command_of, inject_by, plan_by, run_by, to_bench, to_inject, to_plain, to_races, to_run};
 ghost use Rattle.ro_words.specs.Uses.{texts_of};
 ghost use Rattle.ro_words.specs.declared.commands.WordsError.TheVariants as w;
 ghost use Rattle.ro_top.specs.Driven.{AreCounts};
+ghost use Rattle.ro_files.specs.Agreeing.{recorded_of};
 ghost use Rattle.ro_files.specs.Causes.{AsksFor, IsRefusal, RefusalCause, JobCause};
 ghost use Rattle.ro_top.specs.Ends.{IsOutcome};
-ghost use Rattle.ro_top.specs.Top.{OfItsBench, OfItsDraw, OfItsJob, OfItsPlan, OfItsRaces, IsRunOf, IsTold, plain_report};
+ghost use Rattle.ro_top.specs.Top.{OfItsBench, OfItsDraw, OfItsJob, OfItsPlan, OfItsRaces, IsRunOf, IsTold, head_in, plain_report, text_in};
 ghost use Rattle.ro_top.specs.declared.done.Told.TheVariants as t;
 
 use crate::benching::{Benched, bench};
@@ -20,13 +24,16 @@ use crate::playing::{Played, play, unplayed};
 use crate::racing::race;
 use crate::reports::{tell, tell_answer, tell_plan};
 use crate::running::{JobRun, nothing, run_job};
-use ro_files::{image_from, job_from, replay_from};
+use ro_event::View;
+use ro_files::{FetchedJob, fetch_job, image_from, replay_from};
 use ro_io::{Gate, Sink, Store};
-use ro_report::Answer;
+use ro_journal::Entry;
+use ro_journal_text::head_text;
+use ro_report::{Answer, header};
 use ro_words::{
-    BenchCommand, Command, InjectCommand, PlanCommand, RunCommand, WordsError, parse_words,
+    BenchCommand, Command, InjectCommand, Kept, PlanCommand, RunCommand, WordsError, parse_words,
 };
-use std::alloc::Global;
+use std::alloc::{AllocError, Global};
 use std::sync::Wait;
 use std::thread::Threads;
 
@@ -37,9 +44,9 @@ use std::thread::Threads;
 /// other, and none after one that is refused.
 ///
 /// - `run`: the program runs as two, three or five replicas, and what it writes goes to `out`. The report goes to `report`: the
-///   journal, where that is asked for, a line that sums it up, where anything ran, and the answer's line. Each lease passes the
-///   gate before it runs.
-/// - `plain`: the plan of a journal runs on the unreplicated machine, and what it writes goes to `out`. The report has a line of
+///   journal or its record, where that is asked for, a line that sums it up, where anything ran, and the answer's line. Each lease
+///   passes the gate before it runs.
+/// - `plain`: the plan of a journal runs on the unreplicated machine, where that is no record of another executable or input, and what it writes goes to `out`. The report has a line of
 ///   its steps and bytes, where it was run to its end, and the answer's line.
 /// - `races`: the plan of a journal is checked on the unreplicated machine: whether all its steps exist, and which is its first
 ///   race. Nothing goes to `out`. The report has the answer's line alone.
@@ -56,7 +63,7 @@ pub fn romain<'a, R: Threads + Wait + Sync, S: Store, K: Sink + Send, E: Sink, G
     gate: &G,
 ) -> Done<K>
     requires unfailed { (K.failures out ≡ 0) × (E.failures report.old ≡ 0) }
-    ensures run { (asked : AskedRun) → command_of (texts_of words.now) ≡ Some (to_run asked) → (bytes : ℕ) × OfItsJob (S.told store.old) asked result.journal.items result.answer (IsRunOf (record { journal = result.journal.items; answer = result.answer; views = result.views.items; bytes = bytes; held_before = K.held out; held_after = K.held result.out; failures_before = K.failures out; failures_after = K.failures result.out; sure = K.sure out })) × IsTold result.told (E.held report.old) (E.held report.new) (report_of asked.settings.mode asked.journal result.journal.items bytes result.answer) }
+    ensures run { (asked : AskedRun) → command_of (texts_of words.now) ≡ Some (to_run asked) → (bytes : ℕ) × (recorded : Recorded) × OfItsJob (S.told store.old) asked recorded result.journal.items result.answer (IsRunOf (record { journal = result.journal.items; answer = result.answer; views = result.views.items; bytes = bytes; held_before = K.held out; held_after = K.held result.out; failures_before = K.failures out; failures_after = K.failures result.out; sure = K.sure out })) × IsTold result.told (E.held report.old) (E.held report.new) (report_of asked.settings.mode (head_in asked.kept recorded) result.journal.items bytes result.answer) }
     ensures answer { (asked : AskedRun) → command_of (texts_of words.now) ≡ Some (to_run asked) → IsOutcome result.answer (outcome_of result.journal.items) }
     ensures nothing_run { (asked : AskedRun) → command_of (texts_of words.now) ≡ Some (to_run asked) → result.journal.items ≡ [] → (K.held result.out ≡ K.held out) × (K.failures result.out ≡ K.failures out) }
     ensures plain { (asked : AskedPlan) → command_of (texts_of words.now) ≡ Some (to_plain asked) → (steps : ℕ) × (bytes : ℕ) × OfItsPlan (S.told store.old) asked (record { answer = result.answer; steps = steps; bytes = bytes; held_before = K.held out; held_after = K.held result.out; failures_before = K.failures out; failures_after = K.failures result.out }) × IsTold result.told (E.held report.old) (E.held report.new) (plain_report steps bytes result.answer) }
@@ -130,7 +137,7 @@ fn run_command<R: Threads + Wait + Sync, S: Store, K: Sink + Send, E: Sink, G: G
 ) -> Done<K>
     requires unfailed { (K.failures out ≡ 0) × (E.failures report.old ≡ 0) }
     requires fits { Fits (to_run (run_by command.now)) }
-    ensures run { (bytes : ℕ) × OfItsJob (S.told store.old) (run_by command.now) result.journal.items result.answer (IsRunOf (record { journal = result.journal.items; answer = result.answer; views = result.views.items; bytes = bytes; held_before = K.held out; held_after = K.held result.out; failures_before = K.failures out; failures_after = K.failures result.out; sure = K.sure out })) × IsTold result.told (E.held report.old) (E.held report.new) (report_of command.now.settings.mode command.now.journal result.journal.items bytes result.answer) }
+    ensures run { (bytes : ℕ) × (recorded : Recorded) × OfItsJob (S.told store.old) (run_by command.now) recorded result.journal.items result.answer (IsRunOf (record { journal = result.journal.items; answer = result.answer; views = result.views.items; bytes = bytes; held_before = K.held out; held_after = K.held result.out; failures_before = K.failures out; failures_after = K.failures result.out; sure = K.sure out })) × IsTold result.told (E.held report.old) (E.held report.new) (report_of command.now.settings.mode (head_in command.now.kept recorded) result.journal.items bytes result.answer) }
     ensures answer { IsOutcome result.answer (outcome_of result.journal.items) }
     ensures nothing_run { result.journal.items ≡ [] → (K.held result.out ≡ K.held out) × (K.failures result.out ≡ K.failures out) }
     ensures no_views { result.answer ≢ a.Differ → result.answer ≢ a.NoMajority → result.views.items ≡ [] }
@@ -142,7 +149,8 @@ fn run_command<R: Threads + Wait + Sync, S: Store, K: Sink + Send, E: Sink, G: G
     ensures store_calm { result.answer ≢ a.StoreFailed → S.failures store.new ≡ S.failures store.old }
     ensures asks { AsksFor (S.told store.old) (to_run (run_by command.now)) (S.calls store.old) (S.calls store.new) result.answer }
 {
-    let JobRun {
+    let CommandRun {
+        head,
         answer,
         journal,
         views,
@@ -152,7 +160,7 @@ fn run_command<R: Threads + Wait + Sync, S: Store, K: Sink + Send, E: Sink, G: G
     let told = tell(
         report,
         command.settings.mode,
-        command.journal,
+        as_bytes(&head),
         journal.as_slice(),
         bytes,
         &answer,
@@ -166,6 +174,27 @@ fn run_command<R: Threads + Wait + Sync, S: Store, K: Sink + Send, E: Sink, G: G
     }
 }
 
+// What a command's run came to.
+struct CommandRun<K> {
+    // What stands before the entries of its journal in its report, where that is reported.
+    head: Option<Vec<u8>>,
+    answer: Answer,
+    journal: Vec<Entry>,
+    views: Vec<View>,
+    bytes: u64,
+    out: K,
+}
+
+// A head's bytes.
+fn as_bytes(head: &Option<Vec<u8>>) -> Option<&[u8]>
+    ensures { text_in result ≡ option_map (λ bytes. bytes.items) head.now }
+{
+    match head {
+        Some(bytes) => Some(bytes.as_slice()),
+        None => None,
+    }
+}
+
 // Runs the job of a command.
 fn ran<R: Threads + Wait + Sync, S: Store, K: Sink + Send, G: Gate + Sync>(
     rt: &R,
@@ -174,10 +203,10 @@ fn ran<R: Threads + Wait + Sync, S: Store, K: Sink + Send, G: Gate + Sync>(
     store: &mut S,
     out: K,
     gate: &G,
-) -> JobRun<K>
+) -> CommandRun<K>
     requires unfailed { K.failures out ≡ 0 }
     requires fits { Fits (to_run (run_by command.now)) }
-    ensures run { OfItsJob (S.told store.old) (run_by command.now) result.journal.items result.answer (IsRunOf (record { journal = result.journal.items; answer = result.answer; views = result.views.items; bytes = result.bytes; held_before = K.held out; held_after = K.held result.out; failures_before = K.failures out; failures_after = K.failures result.out; sure = K.sure out })) }
+    ensures run { (recorded : Recorded) × OfItsJob (S.told store.old) (run_by command.now) recorded result.journal.items result.answer (IsRunOf (record { journal = result.journal.items; answer = result.answer; views = result.views.items; bytes = result.bytes; held_before = K.held out; held_after = K.held result.out; failures_before = K.failures out; failures_after = K.failures result.out; sure = K.sure out })) × (journal_part result.journal.items (option_map (λ bytes. bytes.items) result.head) ≡ journal_part result.journal.items (head_in command.now.kept recorded)) }
     ensures counts { AreCounts command.now.settings.mode result.journal.items }
     ensures answer { IsOutcome result.answer (outcome_of result.journal.items) }
     ensures nothing_run { result.journal.items ≡ [] → (K.held result.out ≡ K.held out) × (K.failures result.out ≡ K.failures out) }
@@ -188,12 +217,67 @@ fn ran<R: Threads + Wait + Sync, S: Store, K: Sink + Send, G: Gate + Sync>(
     ensures store_calm { result.answer ≢ a.StoreFailed → S.failures store.new ≡ S.failures store.old }
     ensures asks { AsksFor (S.told store.old) (to_run (run_by command.now)) (S.calls store.old) (S.calls store.new) result.answer }
 {
-    match job_from(alloc, command, store) {
-        Ok(job) => {
-            let (_job, run) = run_job(rt, alloc, job, out, gate);
-            run
-        }
-        Err(answer) => nothing(alloc, answer, out),
+    match fetch_job(alloc, command, store) {
+        Ok(fetched) => run_fetched(rt, alloc, command.kept, fetched, out, gate),
+        Err(answer) => with_head(None, nothing(alloc, answer, out)),
+    }
+}
+
+// The run of a job whose journal stands behind this head, where it is reported.
+fn with_head<K>(head: Option<Vec<u8>>, run: JobRun<K>) -> CommandRun<K>
+    ensures { result ≡ record { head = head; answer = run.answer; journal = run.journal; views = run.views; bytes = run.bytes; out = run.out } }
+{
+    let JobRun {
+        answer,
+        journal,
+        views,
+        bytes,
+        out,
+    } = run;
+    CommandRun {
+        head,
+        answer,
+        journal,
+        views,
+        bytes,
+        out,
+    }
+}
+
+// Runs a job that was fetched, where there is memory for what stands before its journal.
+fn run_fetched<R: Threads + Wait + Sync, K: Sink + Send, G: Gate + Sync>(
+    rt: &R,
+    alloc: Global,
+    kept: Kept,
+    fetched: FetchedJob,
+    out: K,
+    gate: &G,
+) -> CommandRun<K>
+    requires unfailed { K.failures out ≡ 0 }
+    requires can_run { CanRun (job_of fetched.job.image fetched.job.input.items fetched.job.faults.items fetched.job.settings) }
+    requires fit { IsFit (job_of fetched.job.image fetched.job.input.items fetched.job.faults.items fetched.job.settings) }
+    ensures run { ((result.answer ≡ a.NoMemory) × (result.journal.items ≡ [])) ⊎ (IsRunOf (record { journal = result.journal.items; answer = result.answer; views = result.views.items; bytes = result.bytes; held_before = K.held out; held_after = K.held result.out; failures_before = K.failures out; failures_after = K.failures result.out; sure = K.sure out }) (job_of fetched.job.image fetched.job.input.items fetched.job.faults.items fetched.job.settings) × (option_map (λ bytes. bytes.items) result.head ≡ head_in kept (recorded_of fetched.job.settings fetched.executable.items fetched.job.input.items fetched.list.items))) }
+    ensures counts { AreCounts fetched.job.settings.mode result.journal.items }
+    ensures answer { IsOutcome result.answer (outcome_of result.journal.items) }
+    ensures program { IsRefusal result.answer → ⊥ }
+    ensures nothing_run { result.journal.items ≡ [] → (K.held result.out ≡ K.held out) × (K.failures result.out ≡ K.failures out) }
+    ensures no_views { result.answer ≢ a.Differ → result.answer ≢ a.NoMajority → result.views.items ≡ [] }
+{
+    let Ok(head) = head_of(alloc, kept, &fetched) else {
+        return with_head(None, nothing(alloc, Answer::NoMemory, out));
+    };
+    let (_job, run) = run_job(rt, alloc, fetched.job, out, gate);
+    with_head(head, run)
+}
+
+// What stands before the entries of the journal of such a job in its report.
+fn head_of(alloc: Global, kept: Kept, fetched: &FetchedJob) -> Result<Option<Vec<u8>>, AllocError>
+    ensures { IfOk result (λ head. option_map (λ bytes. bytes.items) head ≡ head_in kept (recorded_of fetched.now.job.settings fetched.now.executable.items fetched.now.job.input.items fetched.now.list.items)) }
+{
+    match kept {
+        Kept::Nothing => Ok(None),
+        Kept::Journal => Ok(Some(Vec::from_slice(alloc, header(fetched.job.settings.mode))?)),
+        Kept::Record => Ok(Some(head_text(alloc, &fetched.recorded())?)),
     }
 }
 

@@ -1,7 +1,6 @@
 -- What is read of the matches is what the words ask for.
-use Rattle.std.proofs.Common.{◌≡◌, ◌∙◌, ◌⊎◌, Bool, true, false, List, [], ◌∷◌, ◌++◌, Option, Some, None, refl, ap, sym, codes, drop, inl, inr}
-use Rattle.std.specs.Prelude.{map, option_map, Result, Ok, Err, IfErr, IfOk}
-use Rattle.std.specs.Option.{option_map_or}
+use Rattle.std.proofs.Common.{◌≡◌, ◌∙◌, ◌⊎◌, Bool, true, false, not, List, [], ◌∷◌, ◌++◌, Option, Some, None, refl, ap, sym, subst, codes, drop, inl, inr}
+use Rattle.std.specs.Prelude.{map, option_and_then, option_map, Result, Ok, Err, IfErr, IfOk}
 use Rattle.std.specs.Result.{result_ok}
 use Rattle.std.specs.List.{AllByRecursion, list_all}
 use Rattle.std.specs.Str.{bytes_eq}
@@ -12,17 +11,18 @@ use Rattle.clap.specs.Kinds.{Kinds}
 use Rattle.clap.specs.Matches.{first_value, one_text}
 use Rattle.clap.specs.Simple.{App, subcommand_of}
 use Rattle.clap.specs.Values.{bool_text}
-use Rattle.clap.specs.Walk.{Row, first_of, one_of, rows_of}
+use Rattle.clap.specs.Walk.{Row, first_of, has_row, one_of, row_text, rows_of, with_default}
 use Rattle.clap.specs.declared.parser.matches.Found.{Found}
 use Rattle.clap.proofs.WalkLemmas.{first_value-rows, one_text-rows}
 use Rattle.ro_words.specs.Commands.{asked_among}
 use Rattle.ro_words.specs.Grammar.{line_app}
-use Rattle.ro_words.specs.Uses.{Text, Use, has_flag, is_used, is_word, text_of}
+use Rattle.ro_words.specs.Uses.{Text, Use, flags_in, is_used, is_word, text_of}
 use Rattle.ro_words.specs.declared.commands.WordsError.{WordsError}
 use Rattle.ro_words.specs.declared.commands.WordsError.TheVariants.{NoMemory}
-use Rattle.ro_words.proofs.Ends.{default_row, final_rows, first-final, flag_is}
-use Rattle.ro_words.proofs.Names.{with_flag}
-use Rattle.ro_words.proofs.Once.{and_parts, flag_text, same_twice}
+use Rattle.ro_words.proofs.Ends.{default_row, final_rows, first-final, flag_is, flags-find, found_under, one-find}
+use Rattle.ro_words.proofs.Names.{are_apart, with_flags}
+use Rattle.ro_words.proofs.Once.{and_parts, differ_twice, flag_text, is_of, not_true}
+use Rattle.ro_words.proofs.Rules.{flag_built}
 use Rattle.ro_words.proofs.Refused.{AreNamed, refused}
 use Rattle.ro_words.proofs.Rows.{rows}
 use Rattle.ro_words.proofs.Spelled.{SpellsBy, Spoken, found_has, of_none, of_one, spelling_in, spells}
@@ -37,69 +37,103 @@ same_given f expected is =
     let given : (name : Text) → first_value f name ≡ first_of name expected = λ name. first_value-rows f name ∙ ap (first_of name) is in
     λ i name. given name i
 
--- a command without a flag
-pub read_given : {A : Type 0} (f : Found) (expected : List Row) (o : Option A) (asks : (Text → Option Text) → Bool → Option A) (flag : Bool) → rows_of f ≡ expected
-    → o ≡ asks (first_value f) flag → o ≡ asks (λ name. first_of name expected) flag
-read_given f expected o asks flag is reads = reads ∙ ap (λ (g : Text → Option Text). asks g flag) (same_given f expected is)
+-- what is read of the texts that are given, by the rows
+pub read_given : {A : Type 0} (f : Found) (expected : List Row) (o : Option A) (asks : (Text → Option Text) → (Text → Bool) → Option A) (flags : Text → Bool)
+    → rows_of f ≡ expected → o ≡ asks (first_value f) flags → o ≡ asks (λ name. first_of name expected) flags
+read_given f expected o asks flags is reads = reads ∙ ap (λ (g : Text → Option Text). asks g flags) (same_given f expected is)
 
--- one that has it
-pub read_flagged : {A : Type 0} (f : Found) (expected : List Row) (name : Text) (flag : Bool) (o : Option A) (asks : (Text → Option Text) → Bool → Option A)
-    → rows_of f ≡ expected → (one_text f name ≡ Some (bool_text flag) → o ≡ asks (first_value f) flag) → one_of name expected ≡ Some (bool_text flag)
-    → o ≡ asks (λ name. first_of name expected) flag
-read_flagged f expected name flag o asks is reads used =
-    read_given f expected o asks flag is (reads (one_text-rows f name ∙ ap (one_of name) is ∙ used))
+-- what is read of a flag, by the rows
+pub flag_read : (f : Found) (expected : List Row) (name text : Text) → rows_of f ≡ expected → one_of name expected ≡ Some text → one_text f name ≡ Some text
+flag_read f expected name text is used = one_text-rows f name ∙ ap (one_of name) is ∙ used
 
--- ---- the flag at the end
+-- ---- the flags at the end
 
--- what the rows say of the flag
-abbrev pub FlagIs : Option Text → List Row → Bool → Type 0
-FlagIs None ends used = used ≡ false
-FlagIs (Some name) ends used = one_of name ends ≡ Some (bool_text used)
+-- the rows say of each flag whether it was used
+abbrev pub FlagsAre : List Text → List Row → (used : Text → Bool) → Type 0
+FlagsAre flags ends used = AllByRecursion (λ name. one_of name ends ≡ Some (bool_text (used name))) flags
 
-flag_used : (name : Text) (us : List Use) → is_used name us ≡ true → list_all (flag_text (Some name)) us ≡ true
-    → one_of name (rows us) ≡ Some (codes "true")
-flag_used name [] used flags = cc
-flag_used name (u ∷ us) used flags = elim (cases_Bool (bytes_eq u.0 name)) [
+-- what the row under a flag's name says, or its default
+abbrev said_by : Option Row → Option Text
+said_by None = Some (codes "false")
+said_by (Some r) = row_text r
+
+is_found : (name : Text) (xs : List Row) → has_row name xs ≡ true → one_of name xs ≡ said_by (found_under name xs)
+is_found name [] has = cc
+is_found name (x ∷ xs) has = elim (cases_Bool (bytes_eq x.id name)) [
+  | inl same ↦ rw same refl
+  | inr other ↦ let later : has_row name xs ≡ true = rw other at has in rw other (is_found name xs later)
+]
+
+is_last : (name : Text) (xs : List Row) → has_row name xs ≡ false → one_of name (xs ++ default_row name ∷ []) ≡ said_by (found_under name xs)
+is_last name [] none = rw ((bytes_eq-Decides name name).1 refl) refl
+is_last name (x ∷ xs) none = let parts = or_parts (bytes_eq x.id name) (has_row name xs) none in rw parts.0 (is_last name xs parts.1)
+
+one_with : (name : Text) (xs : List Row) → one_of name (with_default xs (flag_built name)) ≡ said_by (found_under name xs)
+one_with name xs = elim (flag_is name xs) [
+  | inl (has, is) ↦ ap (one_of name) is ∙ is_found name xs has
+  | inr (none, is) ↦ ap (one_of name) is ∙ is_last name xs none
+]
+
+-- the text of a flag is `true`
+flag_true : (all : List Text) (name : Text) (u : Use) → is_of all name ≡ true → bytes_eq u.0 name ≡ true → flag_text all u ≡ true → bytes_eq u.1 (codes "true") ≡ true
+flag_true all name u among same text =
+    let here : is_of all u.0 ≡ true = subst (λ (n : Text). is_of all n ≡ true) (sym ((bytes_eq-Decides u.0 name).0 same)) among in
+    rw here at text
+
+used_said : (all : List Text) (name : Text) (us : List Use) → is_of all name ≡ true → list_all (flag_text all) us ≡ true
+    → said_by (found_under name (rows us)) ≡ Some (bool_text (is_used name us))
+used_said all name [] among texts = refl
+used_said all name (u ∷ us) among texts = elim (cases_Bool (bytes_eq u.0 name)) [
   | inl same ↦
-      let parts = and_parts (flag_text (Some name) u) (list_all (flag_text (Some name)) us) flags in
-      let text : bytes_eq u.1 (codes "true") ≡ true = rw (same_twice u.0 name same) at parts.0 in
+      let text = flag_true all name u among same (and_parts (flag_text all u) (list_all (flag_text all) us) texts).0 in
       rw same (ap (λ (t : Text). Some t) ((bytes_eq-Decides u.1 (codes "true")).0 text))
-  | inr other ↦
-      let later : is_used name us ≡ true = rw other at used in
-      rw other (flag_used name us later (and_parts (flag_text (Some name) u) (list_all (flag_text (Some name)) us) flags).1)
+  | inr other ↦ rw other (used_said all name us among (and_parts (flag_text all u) (list_all (flag_text all) us) texts).1)
 ]
 
-flag_unused : (name : Text) (us : List Use) → is_used name us ≡ false
-    → one_of name (rows us ++ default_row name ∷ []) ≡ Some (codes "false")
-flag_unused name [] unused = rw ((bytes_eq-Decides name name).1 refl) refl
-flag_unused name (u ∷ us) unused =
-    let parts = or_parts (bytes_eq u.0 name) (is_used name us) unused in
-    rw parts.0 (flag_unused name us parts.1)
+-- flags of which each is found under its name as the uses have it
+abbrev AreFound : (all : List Text) → List Use → List Row → (flags : List Text) → Type 0
+AreFound all us xs flags = AllByRecursion (λ name. (is_of all name ≡ true) × (found_under name xs ≡ found_under name (rows us))) flags
 
-flag_final : (flag : Option Text) (us : List Use) → list_all (flag_text flag) us ≡ true
-    → FlagIs flag (with_flag flag (rows us)) (option_map_or (λ name. is_used name us) flag false)
-flag_final None us flags = refl
-flag_final (Some name) us flags = elim (flag_is name us) [
-  | inl (used, is) ↦ ap (one_of name) is ∙ flag_used name us used flags ∙ rw used refl
-  | inr (unused, is) ↦ ap (one_of name) is ∙ flag_unused name us unused ∙ rw unused refl
-]
+found_first : (all flags : List Text) (us : List Use) → AllByRecursion (λ name. is_of all name ≡ true) flags → AreFound all us (rows us) flags
+found_first all [] us among = tt
+found_first all (name ∷ flags) us among = ((among.0, refl), found_first all flags us among.1)
+
+-- the default of another flag changes nothing
+found_more : (all flags : List Text) (flag : Text) (us : List Use) (xs : List Row) → is_of flags flag ≡ false → AreFound all us xs flags
+    → AreFound all us (with_default xs (flag_built flag)) flags
+found_more all [] flag us xs apart are = tt
+found_more all (name ∷ flags) flag us xs apart are =
+    let parts = or_parts (bytes_eq name flag) (is_of flags flag) apart in
+    ((are.0.0, one-find flag name xs (differ_twice name flag parts.0) ∙ are.0.1), found_more all flags flag us xs parts.1 are.1)
+
+flags_are : (all flags : List Text) (us : List Use) (xs : List Row) → are_apart flags ≡ true → list_all (flag_text all) us ≡ true → AreFound all us xs flags
+    → FlagsAre flags (with_flags flags xs) (flags_in us)
+flags_are all [] us xs apart texts are = tt
+flags_are all (flag ∷ flags) us xs apart texts are =
+    let parts = and_parts (not (is_of flags flag)) (are_apart flags) apart in
+    let alone = not_true (is_of flags flag) parts.0 in (
+      ap (option_and_then row_text) (flags-find flags flag (with_default xs (flag_built flag)) alone) ∙ one_with flag xs ∙ ap said_by are.0.1
+          ∙ used_said all flag us are.0.0 texts,
+      flags_are all flags us (with_default xs (flag_built flag)) parts.1 texts (found_more all flags flag us xs alone are.1),
+    )
 
 -- ---- what the words ask for
 
 module _ {A : Type 0} where
   -- what is read of the rows of the command is what it asks for
   abbrev pub ReadsAs : (found : Option (Text × List Row)) (read : Option A) → Spoken A → Type 0
-  ReadsAs found read c = (ends : List Row) (flag : Bool) → found ≡ Some (c.grammar.name, ends) → FlagIs c.grammar.syntax.flag ends flag
-      → read ≡ c.given (λ name. first_of name ends) flag
+  ReadsAs found read c = (ends : List Row) (flags : Text → Bool) → found ≡ Some (c.grammar.name, ends) → FlagsAre c.grammar.syntax.flags ends flags
+      → read ≡ c.given (λ name. first_of name ends) flags
 
   read_as_spelled : (cs : List (Spoken A)) (kinds : Kinds) (inner found : Option (Text × List Row)) (asked read : Option A) → SpellsBy cs kinds inner asked
       → kinds ≡ [] → found ≡ inner → AllByRecursion (ReadsAs found read) cs → read ≡ asked
   read_as_spelled cs kinds inner found asked read (of_none refuses none) passes is reads = absurd (refuses passes)
   read_as_spelled cs kinds inner found asked read (of_one by) passes is reads =
       let c = by.command in
-      let flag = has_flag c.grammar.syntax by.uses in
-      found_has (ReadsAs found read) _ cs c reads by.named (final_rows c.grammar by.uses) flag (is ∙ by.ends) (flag_final c.grammar.syntax.flag by.uses by.flags)
-      ∙ c.alike _ (text_of by.uses) flag (λ name other. first-final c.grammar name by.uses other) ∙ sym by.spelled
+      let all = c.grammar.syntax.flags in
+      let said = flags_are all all by.uses (rows by.uses) c.grammar.flags_apart by.flags (found_first all all by.uses c.grammar.flags_are) in
+      found_has (ReadsAs found read) _ cs c reads by.named (final_rows c.grammar by.uses) (flags_in by.uses) (is ∙ by.ends) said
+      ∙ c.alike _ (text_of by.uses) (flags_in by.uses) (λ name other. first-final c.grammar name by.uses other) ∙ sym by.spelled
 
   refused_by : (cs : List (Spoken A)) (kinds : Kinds) (inner : Option (Text × List Row)) (asked : Option A) → SpellsBy cs kinds inner asked → (kinds ≡ [] → ⊥) → asked ≡ None
   refused_by cs kinds inner asked (of_none refuses none) bad = none

@@ -1,5 +1,5 @@
 -- The commands as they are built.
-use Rattle.std.proofs.Common.{◌≡◌, ◌∙◌, Bool, true, false, not, ◌&&◌, ◌||◌, List, [], ◌∷◌, ◌++◌, Some, refl, ap, codes, inl, inr}
+use Rattle.std.proofs.Common.{◌≡◌, ◌∙◌, Bool, true, false, not, ◌&&◌, ◌||◌, List, [], ◌∷◌, ◌++◌, refl, ap, codes, inl, inr}
 use Rattle.std.specs.Prelude.{fold, if◌then◌else◌}
 use Rattle.std.specs.List.{list_all, list_any}
 use Rattle.std.proofs.lemmas.Bool.{cases_Bool}
@@ -11,7 +11,7 @@ use Rattle.ro_words.specs.Commands.{audit_syntax, bench_syntax, inject_syntax, p
 use Rattle.ro_words.specs.Grammar.{rules_of}
 use Rattle.ro_words.proofs.Once.{and_parts}
 use Rattle.ro_words.proofs.Rules.{audit_built, audit_values, bench_built, flag_built, inject_built, options_built, plan_built, run_built, run_values}
-use Rattle.ro_words.proofs.Names.{AreFrom, Grammar, IsValued, Known, by_key, is_flagged, is_valued, unmet, with_flag}
+use Rattle.ro_words.proofs.Names.{AreFrom, Grammar, IsValued, Known, by_key, is_flagged, is_valued, unmet, with_flags}
 
 -- ---- defaults, and what is required
 
@@ -98,7 +98,8 @@ run_valued name =
     by_key (Known run_syntax run_built) (codes "limit") name (value (codes "limit") (record { required = false; takes = refl; flag = refl; alone = refl; cut = λ v. refl; by_long = refl; by_id = refl })) (λ h.
     by_key (Known run_syntax run_built) (codes "scrub") name (value (codes "scrub") (record { required = false; takes = refl; flag = refl; alone = refl; cut = λ v. refl; by_long = refl; by_id = refl })) (λ k.
     by_key (Known run_syntax run_built) (codes "journal") name (is_flagged run_syntax run_built (codes "journal") name (record { named = refl; takes = refl; by_long = refl })) (λ i.
-    unmet (rw (m, a, b, d, e, f, g, h, k) refl) i (rw (m, a, b, d, e, f, g, h, k, i) refl)))))))))))
+    by_key (Known run_syntax run_built) (codes "record") name (is_flagged run_syntax run_built (codes "record") name (record { named = refl; takes = refl; by_long = refl })) (λ j.
+    unmet (rw (m, a, b, d, e, f, g, h, k) refl) (rw (i, j) refl) (rw (m, a, b, d, e, f, g, h, k, i, j) refl))))))))))))
 
 pub run_from_places : AreFrom run_syntax run_built (codes "exe" ∷ []) 1
 unfolding run_built run_values options_built
@@ -106,11 +107,12 @@ run_from_places = (record { by_index = refl; by_id = refl; takes = refl; flag = 
 
 pub run_passes : (xs : List Row) → defaults_fault xs run_built ≡ []
 unfolding run_built run_values options_built
-run_passes = values_pass run_values (flag_built (codes "journal") ∷ []) refl (flag_passes (codes "journal"))
+run_passes = values_pass run_values (flag_built (codes "journal") ∷ flag_built (codes "record") ∷ []) refl
+    (λ xs. one_passes xs (flag_built (codes "journal")) (flag_built (codes "record") ∷ []) (default_flag (codes "journal") xs) (flag_passes (codes "record")))
 
-pub run_ends : (xs : List Row) → fold with_default xs run_built ≡ with_flag (Some (codes "journal")) xs
+pub run_ends : (xs : List Row) → fold with_default xs run_built ≡ with_flags (codes "journal" ∷ codes "record" ∷ []) xs
 unfolding run_built run_values options_built
-run_ends = values_keep run_values (flag_built (codes "journal") ∷ []) refl
+run_ends = values_keep run_values (flag_built (codes "journal") ∷ flag_built (codes "record") ∷ []) refl
 
 pub run_check : (xs : List Row) → list_any (λ a. a.required && not (is_given a.id xs)) run_built ≡ not (list_all (λ n. is_given n xs) (codes "exe" ∷ []))
 unfolding run_built run_values options_built
@@ -128,6 +130,8 @@ run_grammar = record {
   ends = run_ends;
   check = run_check;
   apart = refl;
+  flags_apart = refl;
+  flags_are = (refl, (refl, tt));
 }
 
 -- ---- `audit`
@@ -150,7 +154,7 @@ audit_valued name =
     by_key (Known audit_syntax audit_built) (codes "limit") name (value (codes "limit") (record { required = false; takes = refl; flag = refl; alone = refl; cut = λ v. refl; by_long = refl; by_id = refl })) (λ h.
     by_key (Known audit_syntax audit_built) (codes "scrub") name (value (codes "scrub") (record { required = false; takes = refl; flag = refl; alone = refl; cut = λ v. refl; by_long = refl; by_id = refl })) (λ k.
     by_key (Known audit_syntax audit_built) (codes "json") name (is_flagged audit_syntax audit_built (codes "json") name (record { named = refl; takes = refl; by_long = refl })) (λ i.
-    unmet (rw (j, a, b, d, e, f, g, h, k) refl) i (rw (j, a, b, d, e, f, g, h, k, i) refl)))))))))))
+    unmet (rw (j, a, b, d, e, f, g, h, k) refl) (rw i refl) (rw (j, a, b, d, e, f, g, h, k, i) refl)))))))))))
 
 pub audit_from_places : AreFrom audit_syntax audit_built (codes "exe" ∷ []) 1
 unfolding audit_built audit_values options_built
@@ -160,7 +164,7 @@ pub audit_passes : (xs : List Row) → defaults_fault xs audit_built ≡ []
 unfolding audit_built audit_values options_built
 audit_passes = values_pass audit_values (flag_built (codes "json") ∷ []) refl (flag_passes (codes "json"))
 
-pub audit_ends : (xs : List Row) → fold with_default xs audit_built ≡ with_flag (Some (codes "json")) xs
+pub audit_ends : (xs : List Row) → fold with_default xs audit_built ≡ with_flags (codes "json" ∷ []) xs
 unfolding audit_built audit_values options_built
 audit_ends = values_keep audit_values (flag_built (codes "json") ∷ []) refl
 
@@ -180,6 +184,8 @@ audit_grammar = record {
   ends = audit_ends;
   check = audit_check;
   apart = refl;
+  flags_apart = refl;
+  flags_are = (refl, tt);
 }
 
 -- ---- `plain` and `races`
@@ -225,6 +231,8 @@ plan_grammar name = record {
   ends = plan_ends;
   check = plan_check;
   apart = refl;
+  flags_apart = refl;
+  flags_are = tt;
 }
 
 -- ---- `inject`
@@ -268,6 +276,8 @@ inject_grammar = record {
   ends = inject_ends;
   check = inject_check;
   apart = refl;
+  flags_apart = refl;
+  flags_are = tt;
 }
 
 -- ---- `bench`
@@ -309,4 +319,6 @@ bench_grammar = record {
   ends = bench_ends;
   check = bench_check;
   apart = refl;
+  flags_apart = refl;
+  flags_are = tt;
 }

@@ -2,7 +2,6 @@
 use Rattle.std.proofs.Common.{◌≡◌, ◌∙◌, ℕ, Bool, true, false, not, ◌&&◌, ◌||◌, List, [], ◌∷◌, ◌++◌, Option, Some, None, refl, ap, ap₂, sym, subst, arith, codes, inl, inr}
 use Rattle.std.specs.Prelude.{◌==◌, ◌≤◌, nat_le, find, is_none, map, option_and_then, option_map, if◌then◌else◌, IfSome}
 use Rattle.std.specs.List.{AllByRecursion, list_all}
-use Rattle.std.specs.Option.{option_map_or}
 use Rattle.std.specs.Str.{bytes_eq}
 use Rattle.std.proofs.lemmas.Bool.{cases_Bool, or_cases, eqb-true, leb-true}
 use Rattle.std.proofs.lemmas.List.{append_assoc}
@@ -15,8 +14,10 @@ use Rattle.ro_settings.specs.declared.Mode.{Mode}
 use Rattle.ro_settings.specs.declared.Mode.TheVariants.{Voted, Cooperative}
 use Rattle.ro_settings.specs.declared.Settings.{Settings}
 use Rattle.ro_settings.specs.Ranges.{InRange, IsFrom, IsIn, IsReplicas, Range, drivers_range, limit_range, quantum_range, replicas_range, scrub_range, watchdog_range}
-use Rattle.ro_words.specs.Commands.{Asked, AskedAudit, AskedPlan, AskedRun, AuditFits, Fits, Spelling, SuitsMode, are_replicas, asked_among, asked_in_words, asked_of, asked_run, audit_from, audit_given, audit_of, audit_spellings, bench_from, bench_given, command_of, given_number, inject_from, inject_given, may_have, maybe_number, mode_for, most_together, number_for, number_in, number_or, plain_given, plan_given, races_given, replicas_only, run_from, run_given, settings_from, settings_of, spelling_of, spellings, suited, suits_mode, to_plain, to_races, to_run, usual_audit, usual_run}
-use Rattle.ro_words.specs.Uses.{Syntax, Text, Use, has_flag, is_argument, is_once, is_used, is_whole, option_uses, required_of, takes_value, text_of, uses_from, with_use}
+use Rattle.ro_words.specs.Commands.{Asked, AskedAudit, AskedPlan, AskedRun, AuditFits, Fits, Spelling, SuitsMode, are_replicas, asked_among, asked_in_words, asked_of, asked_run, audit_from, audit_given, audit_of, audit_spellings, bench_from, bench_given, command_of, given_number, inject_from, inject_given, kept_of, may_have, maybe_for, maybe_number, maybe_replicas, mode_for, most_together, number_for, number_in, number_or, plain_given, plan_given, races_given, replicas_only, run_from, run_given, said_from, said_given, SaidInRange, settings_from, settings_of, spelling_of, spellings, suited, suits_mode, to_plain, to_races, to_run, usual_audit, usual_run}
+use Rattle.ro_words.specs.declared.commands.Kept.{Kept}
+use Rattle.ro_words.specs.declared.settings.Said.{Said}
+use Rattle.ro_words.specs.Uses.{Syntax, Text, Use, flags_in, is_argument, is_once, is_used, is_whole, option_uses, required_of, takes_value, text_of, uses_from, with_use}
 use Rattle.ro_words.proofs.Names.{Grammar, IsValued, by_key, flagged, takes_one, unmet}
 use Rattle.ro_words.proofs.Once.{and_parts, differ_twice, or_true, same_twice, twice, used-append}
 use Rattle.ro_words.proofs.Spelled.{Spoken, found_has, some_same, spelling_in, spelling_is, spoken_of}
@@ -122,16 +123,17 @@ settings_fit mode given s is =
       parts.6,
     )
 
-run_from_fits : (mode : Option Mode) (exe : Option Text) (settings : Option Settings) (given : Text → Option Text) (journal : Bool) (asked : AskedRun)
-    → ((s : Settings) → settings ≡ Some s → Ranged mode s) → run_from exe settings given journal ≡ Some asked → Ranged mode asked.settings
-run_from_fits mode None settings given journal asked ranged is = cc
-run_from_fits mode (Some exe) None given journal asked ranged is = cc
-run_from_fits mode (Some exe) (Some settings) given journal asked ranged is =
+run_from_fits : (mode : Option Mode) (exe : Option Text) (settings : Option Settings) (kept : Option Kept) (given : Text → Option Text) (asked : AskedRun)
+    → ((s : Settings) → settings ≡ Some s → Ranged mode s) → run_from exe settings kept given ≡ Some asked → Ranged mode asked.settings
+run_from_fits mode None settings kept given asked ranged is = cc
+run_from_fits mode (Some exe) None kept given asked ranged is = cc
+run_from_fits mode (Some exe) (Some settings) None given asked ranged is = cc
+run_from_fits mode (Some exe) (Some settings) (Some kept) given asked ranged is =
     subst (λ (run : AskedRun). Ranged mode run.settings) (some_same _ asked is) (ranged settings refl)
 
-asked_fits : (mode : Option Mode) (given : Text → Option Text) (journal : Bool) (asked : AskedRun) → asked_run mode given journal ≡ Some asked → Ranged mode asked.settings
-asked_fits mode given journal asked is =
-    run_from_fits mode (given (codes "exe")) (settings_of mode given) given journal asked (λ s e. settings_fit mode given s e) is
+asked_fits : (mode : Option Mode) (kept : Option Kept) (given : Text → Option Text) (asked : AskedRun) → asked_run mode kept given ≡ Some asked → Ranged mode asked.settings
+asked_fits mode kept given asked is =
+    run_from_fits mode (given (codes "exe")) (settings_of mode given) kept given asked (λ s e. settings_fit mode given s e) is
 
 none_is : {X : Type 0} (o : Option X) → is_none o ≡ true → o ≡ None
 none_is None e = refl
@@ -153,34 +155,87 @@ suited_fits run asked ranged is = elim (cases_Bool (suits_mode run)) [
   | inr not ↦ let bad : None ≡ Some asked = rw not at is in cc
 ]
 
-run_fits : (given : Text → Option Text) (journal : Bool) (asked : Asked) → run_given given journal ≡ Some asked → Fits asked
-run_fits given journal asked is = by (asked_run (mode_for given) given journal) refl is
+run_fits : (given : Text → Option Text) (flags : Text → Bool) (asked : Asked) → run_given given flags ≡ Some asked → Fits asked
+run_fits given flags asked is = by (asked_run (mode_for given) kept given) refl is
   where
-    by : (o : Option AskedRun) → asked_run (mode_for given) given journal ≡ o → option_map (λ run. to_run run) (option_and_then suited o) ≡ Some asked → Fits asked
+    kept : Option Kept
+    kept = kept_of (flags (codes "journal")) (flags (codes "record"))
+
+    by : (o : Option AskedRun) → asked_run (mode_for given) kept given ≡ o → option_map (λ run. to_run run) (option_and_then suited o) ≡ Some asked → Fits asked
     by None e f = cc
-    by (Some run) e f = suited_fits run asked (asked_fits (mode_for given) given journal run e).0 f
+    by (Some run) e f = suited_fits run asked (asked_fits (mode_for given) kept given run e).0 f
 
-audit_from_fits : (run : Option AskedRun) (journal : Option Text) (json : Bool) (asked : AskedAudit)
-    → ((r : AskedRun) → run ≡ Some r → Ranged (Some Voted) r.settings) → audit_from run journal json ≡ Some asked → AuditFits asked
-audit_from_fits None journal json asked ranged is = cc
-audit_from_fits (Some run) None json asked ranged is = cc
-audit_from_fits (Some run) (Some journal) json asked ranged is =
-    let fits = ranged run refl in
-    subst AuditFits (some_same _ asked is) (fits.0, sym (some_same Voted run.settings.mode fits.1))
+-- what is said of replicas
+said_replicas : (o : Option (Option ℕ)) (said : Option ℕ) → maybe_replicas o ≡ Some said → IfSome said IsReplicas
+said_replicas None said is = cc
+said_replicas (Some None) said is = subst (λ (x : Option ℕ). IfSome x IsReplicas) (some_same None said is) tt
+said_replicas (Some (Some n)) said is = by (are_replicas n) refl is
+  where
+    by : (b : Bool) → are_replicas n ≡ b → (if b then Some (Some n) else None) ≡ Some said → IfSome said IsReplicas
+    by true e f = subst (λ (x : Option ℕ). IfSome x IsReplicas) (some_same (Some n) said f) (which n e)
+    by false e f = cc
 
-audit_fits : (given : Text → Option Text) (json : Bool) (asked : AskedAudit) → audit_given given json ≡ Some asked → AuditFits asked
-audit_fits given json asked is =
-    audit_from_fits (asked_run (Some Voted) given false) (given (codes "journal")) json asked (λ run e. asked_fits (Some Voted) given false run e) is
+-- what is said of another number
+said_number : (least most : ℕ) (text : Option Text) (said : Option ℕ) → maybe_number least most text ≡ Some said → IfSome said (IsFrom least most)
+said_number least most None said is = subst (λ (x : Option ℕ). IfSome x (IsFrom least most)) (some_same None said is) tt
+said_number least most (Some text) said is = by (number_in least most text) refl is
+  where
+    by : (n : Option ℕ) → number_in least most text ≡ n → option_map (λ x. Some x) n ≡ Some said → IfSome said (IsFrom least most)
+    by None e f = cc
+    by (Some n) e f = subst (λ (x : Option ℕ). IfSome x (IsFrom least most)) (some_same (Some n) said f) (in_from least most n text e)
+
+-- what is said is made of six numbers
+said_of : (a b c d e f : Option (Option ℕ)) (said : Said) → said_from a b c d e f ≡ Some said
+    → (a ≡ Some said.replicas) × (b ≡ Some said.drivers) × (c ≡ Some said.watchdog) × (d ≡ Some said.quantum) × (e ≡ Some said.limit) × (f ≡ Some said.scrub)
+said_of (Some a) (Some b) (Some c) (Some d) (Some e) (Some f) said is =
+    let same : record { replicas = a; drivers = b; watchdog = c; quantum = d; limit = e; scrub = f } ≡ said = some_same _ said is in (
+      ap (λ (x : Said). Some x.replicas) same,
+      ap (λ (x : Said). Some x.drivers) same,
+      ap (λ (x : Said). Some x.watchdog) same,
+      ap (λ (x : Said). Some x.quantum) same,
+      ap (λ (x : Said). Some x.limit) same,
+      ap (λ (x : Said). Some x.scrub) same,
+    )
+said_of None b c d e f said is = cc
+said_of (Some a) None c d e f said is = cc
+said_of (Some a) (Some b) None d e f said is = cc
+said_of (Some a) (Some b) (Some c) None e f said is = cc
+said_of (Some a) (Some b) (Some c) (Some d) None f said is = cc
+said_of (Some a) (Some b) (Some c) (Some d) (Some e) None said is = cc
+
+pub said_fits : (given : Text → Option Text) (said : Said) → said_given given ≡ Some said → SaidInRange said
+said_fits given said is =
+    let parts = said_of _ _ _ _ _ _ said is in
+    let of : (range : Range) (n : Option ℕ) → maybe_for range given ≡ Some n → IfSome n (IsIn range) = λ range n. said_number range.least range.most (given range.name) n in
+    record {
+      replicas = said_replicas (maybe_for replicas_range given) said.replicas parts.0;
+      drivers = of drivers_range said.drivers parts.1;
+      watchdog = of watchdog_range said.watchdog parts.2;
+      quantum = of quantum_range said.quantum parts.3;
+      limit = of limit_range said.limit parts.4;
+      scrub = of scrub_range said.scrub parts.5;
+    }
+
+audit_from_fits : (exe : Option Text) (said : Option Said) (journal input faults : Option Text) (json : Bool) (asked : AskedAudit)
+    → ((s : Said) → said ≡ Some s → SaidInRange s) → audit_from exe said journal input faults json ≡ Some asked → AuditFits asked
+audit_from_fits None said journal input faults json asked ranged is = cc
+audit_from_fits (Some exe) None journal input faults json asked ranged is = cc
+audit_from_fits (Some exe) (Some said) None input faults json asked ranged is = cc
+audit_from_fits (Some exe) (Some said) (Some journal) input faults json asked ranged is = subst AuditFits (some_same _ asked is) (ranged said refl)
+
+audit_fits : (given : Text → Option Text) (flags : Text → Bool) (asked : AskedAudit) → audit_given given flags ≡ Some asked → AuditFits asked
+audit_fits given flags asked is =
+    audit_from_fits (given (codes "exe")) (said_given given) (given (codes "journal")) (given (codes "input")) (given (codes "faults")) (flags (codes "json")) asked (said_fits given) is
 
 plan_fits : (asks : AskedPlan → Asked) → ((plan : AskedPlan) → Fits (asks plan)) → (o : Option AskedPlan) (asked : Asked) → option_map asks o ≡ Some asked → Fits asked
 plan_fits asks fits None asked is = cc
 plan_fits asks fits (Some plan) asked is = subst Fits (some_same (asks plan) asked is) (fits plan)
 
-plain_fits : (given : Text → Option Text) (flag : Bool) (asked : Asked) → plain_given given flag ≡ Some asked → Fits asked
-plain_fits given flag asked is = plan_fits (λ plan. to_plain plan) (λ plan. tt) (plan_given given) asked is
+plain_fits : (given : Text → Option Text) (flags : Text → Bool) (asked : Asked) → plain_given given flags ≡ Some asked → Fits asked
+plain_fits given flags asked is = plan_fits (λ plan. to_plain plan) (λ plan. tt) (plan_given given) asked is
 
-races_fits : (given : Text → Option Text) (flag : Bool) (asked : Asked) → races_given given flag ≡ Some asked → Fits asked
-races_fits given flag asked is = plan_fits (λ plan. to_races plan) (λ plan. tt) (plan_given given) asked is
+races_fits : (given : Text → Option Text) (flags : Text → Bool) (asked : Asked) → races_given given flags ≡ Some asked → Fits asked
+races_fits given flags asked is = plan_fits (λ plan. to_races plan) (λ plan. tt) (plan_given given) asked is
 
 given_from : (least most n : ℕ) (given : Option Text) → given_number least most given ≡ Some n → IsFrom least most n
 given_from least most n None is = cc
@@ -194,33 +249,25 @@ inject_from_fits (Some seed) (Some count) None replica asked few within is = cc
 inject_from_fits (Some seed) (Some count) (Some exe) None asked few within is = cc
 inject_from_fits (Some seed) (Some count) (Some exe) (Some replica) asked few within is = subst Fits (some_same _ asked is) (few count refl, within replica refl)
 
-maybe_from : (given : Option Text) (o : Option ℕ) → maybe_number 0 4 given ≡ Some o → IfSome o (IsFrom 0 4)
-maybe_from None o is = subst (λ (x : Option ℕ). IfSome x (IsFrom 0 4)) (some_same None o is) tt
-maybe_from (Some text) o is = by (number_in 0 4 text) refl is
-  where
-    by : (n : Option ℕ) → number_in 0 4 text ≡ n → option_map (λ x. Some x) n ≡ Some o → IfSome o (IsFrom 0 4)
-    by None e f = cc
-    by (Some n) e f = subst (λ (x : Option ℕ). IfSome x (IsFrom 0 4)) (some_same (Some n) o f) (in_from 0 4 n text e)
-
-inject_fits : (given : Text → Option Text) (flag : Bool) (asked : Asked) → inject_given given flag ≡ Some asked → Fits asked
-inject_fits given flag asked is = inject_from_fits _ _ (given (codes "exe")) _ asked (λ n e. given_from 1 256 n (given (codes "count")) e) (maybe_from (given (codes "replica"))) is
+inject_fits : (given : Text → Option Text) (flags : Text → Bool) (asked : Asked) → inject_given given flags ≡ Some asked → Fits asked
+inject_fits given flags asked is = inject_from_fits _ _ (given (codes "exe")) _ asked (λ n e. given_from 1 256 n (given (codes "count")) e) (said_number 0 4 (given (codes "replica"))) is
 
 bench_from_fits : (seed size : Option ℕ) (asked : Asked) → ((n : ℕ) → size ≡ Some n → IsFrom 1 2000 n) → bench_from seed size ≡ Some asked → Fits asked
 bench_from_fits None size asked few is = cc
 bench_from_fits (Some seed) None asked few is = cc
 bench_from_fits (Some seed) (Some size) asked few is = subst Fits (some_same _ asked is) (few size refl)
 
-bench_fits : (given : Text → Option Text) (flag : Bool) (asked : Asked) → bench_given given flag ≡ Some asked → Fits asked
-bench_fits given flag asked is = bench_from_fits _ _ asked (λ n e. given_from 1 2000 n (given (codes "size")) e) is
+bench_fits : (given : Text → Option Text) (flags : Text → Bool) (asked : Asked) → bench_given given flags ≡ Some asked → Fits asked
+bench_fits given flags asked is = bench_from_fits _ _ asked (λ n e. given_from 1 2000 n (given (codes "size")) e) is
 
 module _ {A : Type 0} (Ranged : A → Type 0) where
   -- whatever texts are given, what is asked for is in range
   abbrev pub GivesRanged : Spelling A → Type 0
-  GivesRanged s = (given : Text → Option Text) (flag : Bool) (asked : A) → s.given given flag ≡ Some asked → Ranged asked
+  GivesRanged s = (given : Text → Option Text) (flags : Text → Bool) (asked : A) → s.given given flags ≡ Some asked → Ranged asked
 
   uses_fit : (s : Spelling A) (uses : List Use) (asked : A) → GivesRanged s → asked_of s uses ≡ Some asked → Ranged asked
   uses_fit s uses asked fits is = elim (cases_Bool (is_whole s.syntax uses)) [
-    | inl whole ↦ let given : s.given (text_of uses) (has_flag s.syntax uses) ≡ Some asked = rw whole at is in fits (text_of uses) _ asked given
+    | inl whole ↦ let given : s.given (text_of uses) (flags_in uses) ≡ Some asked = rw whole at is in fits (text_of uses) _ asked given
     | inr part ↦ let bad : None ≡ Some asked = rw part at is in cc
   ]
 
@@ -288,19 +335,15 @@ find_swap name (w ∷ before) u v behind differ = elim (cases_Bool (bytes_eq w.0
   | inr none ↦ rw none (find_swap name before u v behind differ)
 ]
 
-flag_swap : (flag : Option Text) (before : List Use) (u v : Use) (behind : List Use)
-    → option_map_or (λ name. is_used name (before ++ u ∷ v ∷ behind)) flag false ≡ option_map_or (λ name. is_used name (before ++ v ∷ u ∷ behind)) flag false
-flag_swap None before u v behind = refl
-flag_swap (Some name) before u v behind = used_swap name before u v behind
-
 asked_swap : {A : Type 0} (s : Spelling A) (before : List Use) (u v : Use) (behind : List Use) → bytes_eq u.0 v.0 ≡ false
-    → s.given (text_of (before ++ u ∷ v ∷ behind)) (has_flag s.syntax (before ++ u ∷ v ∷ behind))
-    ≡ s.given (text_of (before ++ v ∷ u ∷ behind)) (has_flag s.syntax (before ++ v ∷ u ∷ behind))
+    → s.given (text_of (before ++ u ∷ v ∷ behind)) (flags_in (before ++ u ∷ v ∷ behind))
+    ≡ s.given (text_of (before ++ v ∷ u ∷ behind)) (flags_in (before ++ v ∷ u ∷ behind))
 asked_swap s before u v behind differ =
     let texts : (name : Text) → text_of (before ++ u ∷ v ∷ behind) name ≡ text_of (before ++ v ∷ u ∷ behind) name =
     λ name. ap (option_map (λ (w : Use). w.1)) (find_swap name before u v behind differ) in
     let given : text_of (before ++ u ∷ v ∷ behind) ≡ text_of (before ++ v ∷ u ∷ behind) = λ i name. texts name i in
-    ap₂ s.given given (flag_swap s.syntax.flag before u v behind)
+    let flags : flags_in (before ++ u ∷ v ∷ behind) ≡ flags_in (before ++ v ∷ u ∷ behind) = λ i name. used_swap name before u v behind i in
+    ap₂ s.given given flags
 
 all_swap : (names : List Text) (before : List Use) (u v : Use) (behind : List Use)
     → list_all (λ n. is_used n (before ++ u ∷ v ∷ behind)) names ≡ list_all (λ n. is_used n (before ++ v ∷ u ∷ behind)) names

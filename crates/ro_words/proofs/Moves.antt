@@ -3,8 +3,6 @@ use Rattle.std.proofs.Common.{◌≡◌, ◌∙◌, ℕ, ◌+◌, true, false, �
 use Rattle.std.specs.Option.{option_map_or}
 use Rattle.std.proofs.lemmas.Bool.{cases_Bool, or_parts}
 use Rattle.std.specs.List.{list_any}
-use Rattle.std.specs.Str.{bytes_eq}
-use Rattle.std.proofs.lemmas.Slice.Eq.{bytes_eq-Decides}
 use Rattle.clap.specs.Lexer.{name_and_value}
 use Rattle.clap.specs.Walk.{Held, arg_by_long, Text, Walk, idle, pushed, reacted, settled, walked}
 use Rattle.clap.specs.Faults.{turn_fault}
@@ -106,15 +104,12 @@ module _ (g : Grammar) where
       option_on us left p word name None h words _ (uses_from g.syntax words left (Some name)) (waiting_fault g p idle word name h valued ∙ stands.fault)
       (waiting_walked g p word name h valued) (rw valued.takes refl) (after us left p _ name stands.before stands.is refl valued)
 
-  flag_met : (name : Text) → IsFlag g.syntax g.rules name → is_flag g.syntax name ≡ true
-  flag_met name flag = ap (λ (o : Option Text). option_map_or (λ f. bytes_eq f name) o false) flag.named ∙ (bytes_eq-Decides name name).1 refl
-
   flag_option : (us : List Use) (left : List Text) (p : ℕ) (word name : Text) (h : Held) (words : List Text) → IsFlag g.syntax g.rules name → Stands g us left p h → ForIdle g words
       → AnswersOption us left p word name None h words
   flag_option us left p word name h words flag stands after = elim (cases_Bool (is_used name us)) [
     | inl used ↦
         let again = second_flag name (settled g.rules h).rows (has_rows name us _ true stands.is used) in
-        answers_as g us _ _ _ _ _ (with_use (name, codes "true") (uses_from g.syntax words left None)) refl refl (rw (flag.takes, flag_met name flag) refl)
+        answers_as g us _ _ _ _ _ (with_use (name, codes "true") (uses_from g.syntax words left None)) refl refl (rw (flag.takes, flag.named) refl)
         (answers_twice g us (name, codes "true") _ _ (uses_from g.syntax words left None) used (some_kinds _ _ _ refl
         (one_kind _ kind.ArgumentConflict (flag_fault g p idle word name h flag ∙ rw (stands.fault, again) refl))))
     | inr unused ↦
@@ -125,7 +120,7 @@ module _ (g : Grammar) where
           is = first.1 ∙ rows_more us (name, codes "true") _ stands.is;
         } in
         option_on us left p word name None h words _ (with_use (name, codes "true") (uses_from g.syntax words left None))
-        (flag_fault g p idle word name h flag ∙ rw (stands.fault, first.0) refl) (flag_walked g p word name h flag) (rw (flag.takes, flag_met name flag) refl)
+        (flag_fault g p idle word name h flag ∙ rw (stands.fault, first.0) refl) (flag_walked g p word name h flag) (rw (flag.takes, flag.named) refl)
         (answers_more g us (name, codes "true") _ _ (uses_from g.syntax words left None) (after _ _ _ _ next))
   ]
 

@@ -1,8 +1,7 @@
 -- What is known of a command's arguments: which one a name belongs to, and which one a place.
-use Rattle.std.proofs.Common.{◌≡◌, ◌∙◌, ℕ, ◌+◌, Bool, true, false, not, ◌&&◌, ◌∷◌, ◌++◌, List, [], Option, Some, None, refl, ap, sym, subst, inl, inr}
+use Rattle.std.proofs.Common.{◌≡◌, ◌∙◌, ℕ, ◌+◌, Bool, true, false, not, ◌&&◌, ◌∷◌, ◌++◌, List, [], Some, None, refl, sym, subst, inl, inr}
 use Rattle.std.specs.Prelude.{fold, min}
-use Rattle.std.specs.List.{list_all, list_any}
-use Rattle.std.specs.Option.{option_map_or}
+use Rattle.std.specs.List.{AllByRecursion, list_all, list_any}
 use Rattle.std.specs.Str.{bytes_eq}
 use Rattle.std.proofs.lemmas.Slice.Eq.{bytes_eq-Decides}
 use Rattle.std.proofs.lemmas.Bool.{cases_Bool}
@@ -13,6 +12,7 @@ use Rattle.clap.specs.Simple.{filled_from}
 use Rattle.clap.specs.Takes.{is_given}
 use Rattle.ro_words.specs.Uses.{Syntax, is_flag, required_of, takes_value}
 use Rattle.ro_words.specs.Grammar.{rules_of}
+use Rattle.ro_words.proofs.Once.{is_of}
 use Rattle.ro_words.proofs.Rules.{flag_built, option_built, place_built}
 
 -- an option that takes a value
@@ -25,9 +25,9 @@ pub record IsValued (s : Syntax) (rules : List Rule) (name : Text) : Type 0 wher
   pub by_long : arg_by_long rules name ≡ Some (option_built name required)
   pub by_id : arg_by_id rules name ≡ Some (option_built name required)
 
--- the option that takes none
+-- an option that takes none
 pub record IsFlag (s : Syntax) (rules : List Rule) (name : Text) : Type 0 where
-  pub named : s.flag ≡ Some name
+  pub named : is_flag s name ≡ true
   pub takes : takes_value s name ≡ false
   pub by_long : arg_by_long rules name ≡ Some (flag_built name)
 
@@ -50,10 +50,15 @@ abbrev pub AreFrom : Syntax → List Rule → List Text → ℕ → Type 0
 AreFrom s rules [] place = arg_by_index rules place ≡ None
 AreFrom s rules (name ∷ left) place = IsPlace s rules name place left × AreFrom s rules left (place + 1)
 
--- where the flag may be there and was not, it has its default
-abbrev pub with_flag : Option Text → List Row → List Row
-with_flag None xs = xs
-with_flag (Some name) xs = with_default xs (flag_built name)
+-- where a flag may be there and was not, it has its default
+abbrev pub with_flags : List Text → List Row → List Row
+with_flags [] xs = xs
+with_flags (name ∷ names) xs = with_flags names (with_default xs (flag_built name))
+
+-- no name stands twice
+abbrev pub are_apart : List Text → Bool
+are_apart [] = true
+are_apart (name ∷ names) = not (is_of names name) && are_apart names
 
 -- a command, with the arguments that are built of it
 pub record Grammar : Type 0 where
@@ -64,9 +69,11 @@ pub record Grammar : Type 0 where
   pub known : (option : Text) → Known syntax rules option
   pub from : AreFrom syntax rules syntax.places 1
   pub passes : (xs : List Row) → defaults_fault xs rules ≡ []
-  pub ends : (xs : List Row) → fold with_default xs rules ≡ with_flag syntax.flag xs
+  pub ends : (xs : List Row) → fold with_default xs rules ≡ with_flags syntax.flags xs
   pub check : (xs : List Row) → list_any (λ a. a.required && not (is_given a.id xs)) rules ≡ not (list_all (λ n. is_given n xs) (required_of syntax))
   pub apart : list_any (is_flag syntax) (required_of syntax) ≡ false
+  pub flags_apart : are_apart syntax.flags ≡ true
+  pub flags_are : AllByRecursion (λ flag. is_of syntax.flags flag ≡ true) syntax.flags
 
 -- by whether a name is this key
 pub by_key : (P : Text → Type 0) (key name : Text) → (key ≡ name → P name) → (bytes_eq key name ≡ false → P name) → P name
@@ -90,9 +97,12 @@ valued_apart s rules (key ∷ left) place name from takes = elim (cases_Bool (by
   | inr differ ↦ rw differ (valued_apart s rules left (place + 1) name from.1 takes)
 ]
 
-pub flag_apart : (s : Syntax) (rules : List Rule) (left : List Text) (place : ℕ) (name : Text) → AreFrom s rules left place → s.flag ≡ Some name
+pub flag_apart : (s : Syntax) (rules : List Rule) (left : List Text) (place : ℕ) (name : Text) → AreFrom s rules left place → is_flag s name ≡ true
     → list_any (bytes_eq name) left ≡ false
 flag_apart s rules [] place name from named = refl
-flag_apart s rules (key ∷ left) place name from named =
-    let other : bytes_eq name key ≡ false = ap (λ (o : Option Text). option_map_or (λ f. bytes_eq f key) o false) (sym named) ∙ from.0.flag in
-    rw other (flag_apart s rules left (place + 1) name from.1 named)
+flag_apart s rules (key ∷ left) place name from named = elim (cases_Bool (bytes_eq name key)) [
+  | inl same ↦
+      let other : is_flag s name ≡ false = subst (λ (n : Text). is_flag s n ≡ false) (sym ((bytes_eq-Decides name key).0 same)) from.0.flag in
+      let bad : true ≡ false = sym named ∙ other in cc
+  | inr differ ↦ rw differ (flag_apart s rules left (place + 1) name from.1 named)
+]

@@ -1,20 +1,19 @@
 -- Lists of uses in which no name stands twice.
-use Rattle.std.proofs.Common.{◌≡◌, ◌∙◌, Bool, true, false, not, ◌&&◌, ◌||◌, List, [], ◌∷◌, ◌++◌, Option, refl, sym, inl, inr, codes}
+use Rattle.std.proofs.Common.{◌≡◌, ◌∙◌, Bool, true, false, not, ◌&&◌, ◌||◌, List, [], ◌∷◌, ◌++◌, refl, sym, inl, inr, codes}
 use Rattle.std.specs.Str.{bytes_eq}
-use Rattle.std.specs.List.{list_all}
-use Rattle.std.specs.Option.{option_map_or}
+use Rattle.std.specs.List.{list_all, list_any}
 use Rattle.std.proofs.lemmas.Bool.{cases_Bool, or_parts}
 use Rattle.std.proofs.lemmas.List.Folds.{list_all-append, list_any-append}
 use Rattle.std.proofs.lemmas.Slice.Eq.{bytes_eq-Decides}
 use Rattle.ro_words.specs.Uses.{Text, Use, is_once, is_used}
 
--- the name is the flag's
-abbrev pub is_of : Option Text → Text → Bool
-is_of flag name = option_map_or (λ f. bytes_eq f name) flag false
+-- the name is a flag's
+abbrev pub is_of : List Text → Text → Bool
+is_of flags name = list_any (λ f. bytes_eq f name) flags
 
--- the flag's text is `true`
-abbrev pub flag_text : Option Text → Use → Bool
-flag_text flag u = not (is_of flag u.0) || bytes_eq u.1 (codes "true")
+-- a flag's text is `true`
+abbrev pub flag_text : List Text → Use → Bool
+flag_text flags u = not (is_of flags u.0) || bytes_eq u.1 (codes "true")
 
 pub or_true : (b : Bool) → (b || true) ≡ true
 or_true true = refl
@@ -57,7 +56,7 @@ pub and_parts : (a b : Bool) → (a && b) ≡ true → (a ≡ true) × (b ≡ tr
 and_parts true b e = (refl, e)
 and_parts false b e = cc
 
-not_true : (b : Bool) → not b ≡ true → b ≡ false
+pub not_true : (b : Bool) → not b ≡ true → b ≡ false
 not_true true e = cc
 not_true false e = refl
 
@@ -70,9 +69,9 @@ once_more (w ∷ ws) u once unused =
     used-append w.0 ws (u ∷ []) ∙ rw (not_true (is_used w.0 ws) parts.0, differ_twice w.0 u.0 others.0) refl in
     rw (here, once_more ws u parts.1 others.1) refl
 
-pub flags_more : (flag : Option Text) (us : List Use) (u : Use) → list_all (flag_text flag) us ≡ true → flag_text flag u ≡ true
-    → list_all (flag_text flag) (us ++ u ∷ []) ≡ true
-flags_more flag us u all here = list_all-append (flag_text flag) us (u ∷ []) ∙ rw (all, here) refl
+pub flags_more : (flags : List Text) (us : List Use) (u : Use) → list_all (flag_text flags) us ≡ true → flag_text flags u ≡ true
+    → list_all (flag_text flags) (us ++ u ∷ []) ≡ true
+flags_more flags us u all here = list_all-append (flag_text flags) us (u ∷ []) ∙ rw (all, here) refl
 
 pub used_more : (name : Text) (us : List Use) (u : Use) → bytes_eq u.0 name ≡ false → is_used name (us ++ u ∷ []) ≡ is_used name us
 used_more name us u other = used-append name us (u ∷ []) ∙ rw other (or_false (is_used name us))

@@ -44,7 +44,7 @@ unfoldable pub run_values : List Rule
 run_values = place_built (codes "exe") 1 ∷ option_built (codes "mode") false ∷ options_built
 
 unfoldable pub run_built : List Rule
-run_built = run_values ++ flag_built (codes "journal") ∷ []
+run_built = run_values ++ flag_built (codes "journal") ∷ flag_built (codes "record") ∷ []
 
 unfoldable pub audit_values : List Rule
 audit_values = place_built (codes "exe") 1 ∷ option_built (codes "journal") true ∷ options_built

@@ -15,7 +15,7 @@ use Rattle.clap.proofs.WalkLemmas.{walk_stopped}
 use Rattle.clap.proofs.FaultLemmas.{stopped_fault}
 use Rattle.ro_words.specs.Commands.{Spelling, asked_among, asked_in_words, asked_of, spelling_of}
 use Rattle.ro_words.specs.Grammar.{line_app, line_top, shape_of}
-use Rattle.ro_words.specs.Uses.{Syntax, Use, has_flag, is_flag, is_word, text_of, uses_from}
+use Rattle.ro_words.specs.Uses.{Syntax, Use, flags_in, is_flag, is_word, text_of, uses_from}
 use Rattle.ro_words.proofs.Ends.{final_rows}
 use Rattle.ro_words.proofs.Grammars.{no_defaults}
 use Rattle.ro_words.proofs.Names.{Grammar}
@@ -55,15 +55,15 @@ found_has P p (y ∷ ys) x all is = elim (cases_Bool (p y)) [
 
 -- ---- commands
 
--- texts that agree on each name but the flag's
+-- texts that agree on each name but those of flags
 abbrev pub Agree : Syntax → (f g : Text → Option Text) → Type 0
 Agree s f g = (name : Text) → is_flag s name ≡ false → f name ≡ g name
 
 -- a command, with what it asks for
 pub record Spoken (A : Type 0) : Type 0 where
   pub grammar : Grammar
-  pub given : (Text → Option Text) → Bool → Option A
-  pub alike : (f g : Text → Option Text) (flag : Bool) → Agree grammar.syntax f g → given f flag ≡ given g flag
+  pub given : (Text → Option Text) → (Text → Bool) → Option A
+  pub alike : (f g : Text → Option Text) (flags : Text → Bool) → Agree grammar.syntax f g → given f flags ≡ given g flags
 
 abbrev pub spelling_in : {A : Type 0} → Spoken A → Spelling A
 spelling_in c = record { name = c.grammar.name; syntax = c.grammar.syntax; given = c.given }
@@ -80,9 +80,9 @@ pub record SpelledAs {A : Type 0} (cs : List (Spoken A)) (kinds : Kinds) (inner 
   pub named : spoken_of cs command.grammar.name ≡ Some command
   pub uses : List Use
   pub passes : kinds ≡ []
-  pub flags : list_all (flag_text command.grammar.syntax.flag) uses ≡ true
+  pub flags : list_all (flag_text command.grammar.syntax.flags) uses ≡ true
   pub ends : inner ≡ Some (command.grammar.name, final_rows command.grammar uses)
-  pub spelled : asked ≡ command.given (text_of uses) (has_flag command.grammar.syntax uses)
+  pub spelled : asked ≡ command.given (text_of uses) (flags_in uses)
 
 -- a command line by what fails, where a parse of it ends and what it asks for
 pub data SpellsBy {A : Type 0} (cs : List (Spoken A)) (kinds : Kinds) (inner : Option (Text × List Row)) (asked : Option A) : Type 0 where

@@ -43,7 +43,7 @@ module _ (g : Grammar) where
   -- the walk fails by `kinds`, or ends in these rows, and so do all the uses
   abbrev pub AnswersAll : List Use → Kinds → List Row → Type 0
   AnswersAll all kinds ends =
-      ((kinds ≡ []) × (is_whole g.syntax all ≡ true) × (list_all (flag_text g.syntax.flag) all ≡ true) × (ends ≡ final_rows g all))
+      ((kinds ≡ []) × (is_whole g.syntax all ≡ true) × (list_all (flag_text g.syntax.flags) all ≡ true) × (ends ≡ final_rows g all))
       ⊎ ((kinds ≡ [] → ⊥) × (is_whole g.syntax all ≡ false))
 
   -- the same, of the uses so far and those that are read from the words that follow
@@ -70,7 +70,7 @@ module _ (g : Grammar) where
   -- these places are left
   pub record Before (us : List Use) (left : List Text) (p : ℕ) : Type 0 where
     pub once : is_once us ≡ true
-    pub flags : list_all (flag_text g.syntax.flag) us ≡ true
+    pub flags : list_all (flag_text g.syntax.flags) us ≡ true
     pub unused : list_any (λ place. is_used place us) left ≡ false
     pub from : AreFrom g.syntax g.rules left p
 
@@ -107,7 +107,7 @@ module _ (g : Grammar) where
       let here = or_parts (is_used name us) (list_any (λ n. is_used n us) left) before.unused in
       record {
         once = once_more us _ before.once here.0;
-        flags = flags_more g.syntax.flag us (name, text) before.flags (rw before.from.0.flag refl);
+        flags = flags_more g.syntax.flags us (name, text) before.flags (rw before.from.0.flag refl);
         unused = unused_more us (name, text) left here.1 before.from.0.later;
         from = before.from.1;
       }
@@ -116,7 +116,7 @@ module _ (g : Grammar) where
       → Before (us ++ (name, text) ∷ []) left p
   before_valued us left p name text before unused valued = record {
     once = once_more us _ before.once unused;
-    flags = flags_more g.syntax.flag us (name, text) before.flags (rw valued.flag refl);
+    flags = flags_more g.syntax.flags us (name, text) before.flags (rw valued.flag refl);
     unused = unused_more us (name, text) left before.unused (valued_apart g.syntax g.rules left p name before.from valued.takes);
     from = before.from;
   }
@@ -125,7 +125,7 @@ module _ (g : Grammar) where
       → Before (us ++ (name, codes "true") ∷ []) left p
   before_flag us left p name before unused flag = record {
     once = once_more us _ before.once unused;
-    flags = flags_more g.syntax.flag us (name, codes "true") before.flags (or_true (not (is_flag g.syntax name)));
+    flags = flags_more g.syntax.flags us (name, codes "true") before.flags (or_true (not (is_flag g.syntax name)));
     unused = unused_more us (name, codes "true") left before.unused (flag_apart g.syntax g.rules left p name before.from flag.named);
     from = before.from;
   }

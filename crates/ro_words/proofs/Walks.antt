@@ -9,7 +9,7 @@ use Rattle.clap.specs.Walk.{Held, Row, finished, Text, idle, nothing_held, optio
 use Rattle.clap.specs.Faults.{check_fault, settle_fault}
 use Rattle.clap.specs.declared.error.kind.ErrorKind.TheVariants as kind
 use Rattle.ro_words.specs.Uses.{Use, is_used, is_word, required_of, uses_from, with_use}
-use Rattle.ro_words.proofs.Names.{Grammar, IsValued, with_flag}
+use Rattle.ro_words.proofs.Names.{Grammar, IsValued, with_flags}
 use Rattle.ro_words.proofs.Once.{and_parts}
 use Rattle.ro_words.proofs.Ends.{check_is, final_rows, required_given}
 use Rattle.ro_words.proofs.Rows.{first_use, rows, second_use}
@@ -73,7 +73,7 @@ module _ (g : Grammar) where
   -- ---- the end of the words
 
   end_is : (us : List Use) (h : Held) → (settled g.rules h).rows ≡ rows us → finished g.rules h ≡ final_rows g us
-  end_is us h is = g.ends (settled g.rules h).rows ∙ ap (with_flag g.syntax.flag) is
+  end_is us h is = g.ends (settled g.rules h).rows ∙ ap (with_flags g.syntax.flags) is
 
   -- what must be there was used
   abbrev is_full : List Use → Bool

@@ -9,15 +9,18 @@ use Rattle.clap.specs.ValueTests.{is_unsigned_in}
 use Rattle.ro_settings.specs.declared.Mode.{Mode}
 use Rattle.ro_settings.specs.declared.Mode.TheVariants.{Voted, Cooperative}
 use Rattle.ro_settings.specs.declared.Settings.{Settings}
-use Rattle.ro_settings.specs.Ranges.{InRange, IsFrom, Range, default_settings, drivers_range, limit_range, quantum_range, ranges, replicas_range, scrub_range, watchdog_range}
-use Rattle.ro_words.specs.Uses.{Text, Use, Syntax, has_flag, is_whole, text_of, uses_from}
+use Rattle.ro_settings.specs.Ranges.{InRange, IsFrom, IsIn, IsReplicas, Range, default_settings, drivers_range, limit_range, quantum_range, ranges, replicas_range, scrub_range, watchdog_range}
+use Rattle.ro_words.specs.Uses.{Text, Use, Syntax, flags_in, is_whole, text_of, uses_from}
 use Rattle.ro_words.specs.declared.commands.AuditCommand.{AuditCommand}
 use Rattle.ro_words.specs.declared.commands.Command.{Command}
 use Rattle.ro_words.specs.declared.commands.Command.TheVariants.{Run, Plain, Races, Inject, Bench}
 use Rattle.ro_words.specs.declared.commands.BenchCommand.{BenchCommand}
 use Rattle.ro_words.specs.declared.commands.InjectCommand.{InjectCommand}
+use Rattle.ro_words.specs.declared.commands.Kept.{Kept}
+use Rattle.ro_words.specs.declared.commands.Kept.TheVariants.{Nothing, Journal, Record}
 use Rattle.ro_words.specs.declared.commands.PlanCommand.{PlanCommand}
 use Rattle.ro_words.specs.declared.commands.RunCommand.{RunCommand}
+use Rattle.ro_words.specs.declared.settings.Said.{Said}
 use Rattle.ro_words.specs.declared.commands.WordsError.{WordsError}
 use Rattle.ro_words.specs.declared.commands.WordsError.TheVariants.{Bad, NoMemory}
 use Rattle.clap.specs.declared.error.kind.ErrorKind.{ErrorKind}
@@ -98,13 +101,13 @@ settings_of mode given = settings_from mode
 
 -- ---- commands
 
--- a run that is asked for
+-- a run that is asked for, and what is to be kept of its journal
 pub record AskedRun : Type 0 where
   pub executable : Text
   pub input : Option Text
   pub faults : Option Text
   pub settings : Settings
-  pub journal : Bool
+  pub kept : Kept
 
 -- the plan of a journal that is to be followed on the unreplicated machine
 pub record AskedPlan : Type 0 where
@@ -124,9 +127,12 @@ pub record AskedBench : Type 0 where
   pub seed : ℕ
   pub size : ℕ
 
--- the audit of a journal, of the run that it is said to be of
+-- the audit of a journal, of a run of these files in which these numbers are said to have been asked for
 pub record AskedAudit : Type 0 where
-  pub run : AskedRun
+  pub executable : Text
+  pub input : Option Text
+  pub faults : Option Text
+  pub said : Said
   pub journal : Text
   pub json : Bool
 
@@ -153,27 +159,61 @@ usual_run executable = record {
   input = None;
   faults = None;
   settings = default_settings;
-  journal = false;
+  kept = Nothing;
 }
 
--- the audit of a journal of that run
+-- no number is said
+abbrev pub nothing_said : Said
+nothing_said = record { replicas = None; drivers = None; watchdog = None; quantum = None; limit = None; scrub = None }
+
+-- the audit of a journal for which nothing else is said
 abbrev pub usual_audit : (executable journal : Text) → AskedAudit
-usual_audit executable journal = record { run = usual_run executable; journal = journal; json = false }
+usual_audit executable journal =
+    record { executable = executable; input = None; faults = None; said = nothing_said; journal = journal; json = false }
 
--- ---- what each asks for, from the texts that are given under the names, and whether its flag is
+-- the number that is said, or the usual one
+abbrev pub number_said : (usual : ℕ) → Option ℕ → ℕ
+number_said usual None = usual
+number_said usual (Some number) = number
 
-abbrev pub run_from : Option Text → Option Settings → (Text → Option Text) → Bool → Option AskedRun
-run_from (Some executable) (Some settings) given journal = Some (record {
+-- the settings in the mode where these numbers are said; the others are the usual ones
+abbrev pub settings_said : Mode → Said → Settings
+settings_said mode said = record {
+  mode = mode;
+  replicas = number_said replicas_range.usual said.replicas;
+  drivers = number_said drivers_range.usual said.drivers;
+  watchdog = number_said watchdog_range.usual said.watchdog;
+  quantum = number_said quantum_range.usual said.quantum;
+  limit = number_said limit_range.usual said.limit;
+  scrub = number_said scrub_range.usual said.scrub;
+}
+
+-- the run of the audit's files with these settings
+abbrev pub audited_run : AskedAudit → Settings → AskedRun
+audited_run audit settings =
+    record { executable = audit.executable; input = audit.input; faults = audit.faults; settings = settings; kept = Nothing }
+
+-- ---- what each asks for, from the texts that are given under the names, and from which flags are given
+
+-- what is to be kept of a run's journal: the journal or the record, not both
+abbrev pub kept_of : (journal recorded : Bool) → Option Kept
+kept_of false false = Some Nothing
+kept_of true false = Some Journal
+kept_of false true = Some Record
+kept_of true true = None
+
+abbrev pub run_from : Option Text → Option Settings → Option Kept → (Text → Option Text) → Option AskedRun
+run_from (Some executable) (Some settings) (Some kept) given = Some (record {
   executable = executable;
   input = given (codes "input");
   faults = given (codes "faults");
   settings = settings;
-  journal = journal;
+  kept = kept;
 })
-run_from _ _ given journal = None
+run_from _ _ _ given = None
 
-abbrev pub asked_run : Option Mode → (Text → Option Text) → (journal : Bool) → Option AskedRun
-asked_run mode given journal = run_from (given (codes "exe")) (settings_of mode given) given journal
+abbrev pub asked_run : Option Mode → Option Kept → (Text → Option Text) → Option AskedRun
+asked_run mode kept given = run_from (given (codes "exe")) (settings_of mode given) kept given
 
 -- a run of this mode may have these faults, scrubs and steps
 abbrev pub may_have : Mode → (faults : Option Text) → (scrub limit : ℕ) → Bool
@@ -187,16 +227,49 @@ suits_mode run = may_have run.settings.mode run.faults run.settings.scrub run.se
 abbrev pub suited : AskedRun → Option AskedRun
 suited run = if suits_mode run then Some run else None
 
-abbrev pub run_given : (Text → Option Text) → Bool → Option Asked
-run_given given journal = option_map (λ run. to_run run) (option_and_then suited (asked_run (mode_for given) given journal))
+abbrev pub run_given : (Text → Option Text) → (flags : Text → Bool) → Option Asked
+run_given given flags =
+    option_map (λ run. to_run run) (option_and_then suited (asked_run (mode_for given) (kept_of (flags (codes "journal")) (flags (codes "record"))) given))
 
-abbrev pub audit_from : Option AskedRun → Option Text → (json : Bool) → Option AskedAudit
-audit_from (Some run) (Some journal) json = Some (record { run = run; journal = journal; json = json })
-audit_from _ _ json = None
+-- so many replicas, where so many may run, of a number that need not be said
+abbrev pub maybe_replicas : Option (Option ℕ) → Option (Option ℕ)
+maybe_replicas None = None
+maybe_replicas (Some None) = Some None
+maybe_replicas (Some (Some n)) = if are_replicas n then Some (Some n) else None
 
--- The words of an audit don't say a mode: the journal does, and until that is read it is that of votes.
-abbrev pub audit_given : (Text → Option Text) → Bool → Option AskedAudit
-audit_given given json = audit_from (asked_run (Some Voted) given false) (given (codes "journal")) json
+-- the number of an option that need not be said, from the texts that are given under the options' names
+abbrev pub maybe_for : Range → (Text → Option Text) → Option (Option ℕ)
+maybe_for range given = maybe_number range.least range.most (given range.name)
+
+abbrev pub said_from : (replicas drivers watchdog quantum limit scrub : Option (Option ℕ)) → Option Said
+said_from (Some replicas) (Some drivers) (Some watchdog) (Some quantum) (Some limit) (Some scrub) = Some (record {
+  replicas = replicas;
+  drivers = drivers;
+  watchdog = watchdog;
+  quantum = quantum;
+  limit = limit;
+  scrub = scrub;
+})
+said_from _ _ _ _ _ _ = None
+
+-- the numbers that are said
+abbrev pub said_given : (Text → Option Text) → Option Said
+said_given given = said_from
+    (maybe_replicas (maybe_for replicas_range given))
+    (maybe_for drivers_range given)
+    (maybe_for watchdog_range given)
+    (maybe_for quantum_range given)
+    (maybe_for limit_range given)
+    (maybe_for scrub_range given)
+
+abbrev pub audit_from : Option Text → Option Said → Option Text → (input faults : Option Text) → (json : Bool) → Option AskedAudit
+audit_from (Some executable) (Some said) (Some journal) input faults json =
+    Some (record { executable = executable; input = input; faults = faults; said = said; journal = journal; json = json })
+audit_from _ _ _ input faults json = None
+
+-- The words of an audit don't say a mode: the journal does.
+abbrev pub audit_given : (Text → Option Text) → (flags : Text → Bool) → Option AskedAudit
+audit_given given flags = audit_from (given (codes "exe")) (said_given given) (given (codes "journal")) (given (codes "input")) (given (codes "faults")) (flags (codes "json"))
 
 abbrev pub plan_from : Option Text → Option Text → Option Text → Option AskedPlan
 plan_from (Some executable) (Some plan) input = Some (record { executable = executable; plan = plan; input = input })
@@ -205,27 +278,27 @@ plan_from _ _ input = None
 abbrev pub plan_given : (Text → Option Text) → Option AskedPlan
 plan_given given = plan_from (given (codes "exe")) (given (codes "plan")) (given (codes "input"))
 
-abbrev pub plain_given : (Text → Option Text) → Bool → Option Asked
-plain_given given flag = option_map (λ plan. to_plain plan) (plan_given given)
+abbrev pub plain_given : (Text → Option Text) → (flags : Text → Bool) → Option Asked
+plain_given given flags = option_map (λ plan. to_plain plan) (plan_given given)
 
-abbrev pub races_given : (Text → Option Text) → Bool → Option Asked
-races_given given flag = option_map (λ plan. to_races plan) (plan_given given)
+abbrev pub races_given : (Text → Option Text) → (flags : Text → Bool) → Option Asked
+races_given given flags = option_map (λ plan. to_races plan) (plan_given given)
 
 abbrev pub inject_from : Option ℕ → Option ℕ → Option Text → Option (Option ℕ) → Option Asked
 inject_from (Some seed) (Some count) (Some executable) (Some replica) =
     Some (to_inject (record { seed = seed; count = count; executable = executable; replica = replica }))
 inject_from _ _ _ _ = None
 
-abbrev pub inject_given : (Text → Option Text) → Bool → Option Asked
-inject_given given flag = inject_from (given_number 0 (2 ^ 64 - 1) (given (codes "seed"))) (given_number 1 256 (given (codes "count")))
+abbrev pub inject_given : (Text → Option Text) → (flags : Text → Bool) → Option Asked
+inject_given given flags = inject_from (given_number 0 (2 ^ 64 - 1) (given (codes "seed"))) (given_number 1 256 (given (codes "count")))
     (given (codes "exe")) (maybe_number 0 4 (given (codes "replica")))
 
 abbrev pub bench_from : Option ℕ → Option ℕ → Option Asked
 bench_from (Some seed) (Some size) = Some (to_bench (record { seed = seed; size = size }))
 bench_from _ _ = None
 
-abbrev pub bench_given : (Text → Option Text) → Bool → Option Asked
-bench_given given flag = bench_from (given_number 0 (2 ^ 64 - 1) (given (codes "seed"))) (given_number 1 2000 (given (codes "size")))
+abbrev pub bench_given : (Text → Option Text) → (flags : Text → Bool) → Option Asked
+bench_given given flags = bench_from (given_number 0 (2 ^ 64 - 1) (given (codes "seed"))) (given_number 1 2000 (given (codes "size")))
 
 -- ---- how each is spelled
 
@@ -233,7 +306,7 @@ bench_given given flag = bench_from (given_number 0 (2 ^ 64 - 1) (given (codes "
 pub record Spelling (A : Type 0) : Type 0 where
   pub name : Text
   pub syntax : Syntax
-  pub given : (Text → Option Text) → Bool → Option A
+  pub given : (Text → Option Text) → (flags : Text → Bool) → Option A
 
 -- the options of a run that have a value, but for its mode
 abbrev pub run_options : List Text
@@ -244,7 +317,7 @@ run_syntax = record {
   places = codes "exe" ∷ [];
   needed = [];
   valued = codes "mode" ∷ run_options;
-  flag = Some (codes "journal");
+  flags = codes "journal" ∷ codes "record" ∷ [];
 }
 
 -- an executable and a journal that is said to be of its run
@@ -253,23 +326,23 @@ audit_syntax = record {
   places = codes "exe" ∷ [];
   needed = codes "journal" ∷ [];
   valued = run_options;
-  flag = Some (codes "json");
+  flags = codes "json" ∷ [];
 }
 
 -- an executable and a journal whose plan it is to follow
 abbrev pub plan_syntax : Syntax
-plan_syntax = record { places = codes "exe" ∷ []; needed = codes "plan" ∷ []; valued = codes "input" ∷ []; flag = None }
+plan_syntax = record { places = codes "exe" ∷ []; needed = codes "plan" ∷ []; valued = codes "input" ∷ []; flags = [] }
 
 abbrev pub inject_syntax : Syntax
 inject_syntax = record {
   places = codes "seed" ∷ codes "count" ∷ codes "exe" ∷ [];
   needed = [];
   valued = codes "replica" ∷ [];
-  flag = None;
+  flags = [];
 }
 
 abbrev pub bench_syntax : Syntax
-bench_syntax = record { places = codes "seed" ∷ codes "size" ∷ []; needed = []; valued = []; flag = None }
+bench_syntax = record { places = codes "seed" ∷ codes "size" ∷ []; needed = []; valued = []; flags = [] }
 
 abbrev pub run_spelling : Spelling Asked
 run_spelling = record { name = codes "run"; syntax = run_syntax; given = run_given }
@@ -297,7 +370,7 @@ audit_spellings = audit_spelling ∷ []
 
 -- what the uses ask for, where they are whole
 abbrev pub asked_of : {A : Type 0} → Spelling A → List Use → Option A
-asked_of s uses = if is_whole s.syntax uses then s.given (text_of uses) (has_flag s.syntax uses) else None
+asked_of s uses = if is_whole s.syntax uses then s.given (text_of uses) (flags_in uses) else None
 
 -- what the words behind the command's name ask for
 abbrev pub asked_in_words : {A : Type 0} → List Text → Spelling A → Option A
@@ -331,11 +404,18 @@ run_by run = record {
   input = text_in run.input;
   faults = text_in run.faults;
   settings = run.settings;
-  journal = run.journal;
+  kept = run.kept;
 }
 
 abbrev pub audit_by : AuditCommand → AskedAudit
-audit_by audit = record { run = run_by audit.run; journal = audit.journal.now; json = audit.json }
+audit_by audit = record {
+  executable = audit.executable.now;
+  input = text_in audit.input;
+  faults = text_in audit.faults;
+  said = audit.said;
+  journal = audit.journal.now;
+  json = audit.json;
+}
 
 abbrev pub plan_by : PlanCommand → AskedPlan
 plan_by plan = record { executable = plan.executable.now; plan = plan.plan.now; input = text_in plan.input }
@@ -362,9 +442,18 @@ Fits (to_races races) = Unit {0}
 Fits (to_inject inject) = IsFrom 1 256 inject.count × IfSome inject.replica (IsFrom 0 4)
 Fits (to_bench bench) = IsFrom 1 2000 bench.size
 
--- the same of an audit, whose words say no mode
+-- the numbers that are said lie in their ranges
+pub record SaidInRange (said : Said) : Type 0 where
+  pub replicas : IfSome said.replicas IsReplicas
+  pub drivers : IfSome said.drivers (IsIn drivers_range)
+  pub watchdog : IfSome said.watchdog (IsIn watchdog_range)
+  pub quantum : IfSome said.quantum (IsIn quantum_range)
+  pub limit : IfSome said.limit (IsIn limit_range)
+  pub scrub : IfSome said.scrub (IsIn scrub_range)
+
+-- the same of an audit
 abbrev pub AuditFits : AskedAudit → Type 0
-AuditFits audit = InRange audit.run.settings × (audit.run.settings.mode ≡ Voted)
+AuditFits audit = SaidInRange audit.said
 
 -- what a parse that failed says of the words
 abbrev pub refusal_of : ErrorKind → WordsError

@@ -1,5 +1,5 @@
 -- What `clap` is asked to read.
-use Rattle.std.specs.Prelude.{◌≡◌, List, [], ◌∷◌, ◌++◌, Option, Some, None, codes, false, true, map, fold}
+use Rattle.std.specs.Prelude.{◌≡◌, List, [], ◌++◌, Some, codes, false, true, map, fold}
 use Rattle.clap.specs.Walk.{Rule, Text}
 use Rattle.clap.specs.Simple.{App, Shape, app_of, new_app, new_rule, new_shape, on_top, with_rule}
 use Rattle.ro_words.specs.Uses.{Syntax}
@@ -24,12 +24,8 @@ needed_rule name = record (option_rule name) { required = true }
 abbrev pub flag_rule : Text → Rule
 flag_rule name = record (new_rule name) { long = Some name; action = Some SetTrue }
 
-abbrev pub flag_rules : Option Text → List Rule
-flag_rules None = []
-flag_rules (Some name) = flag_rule name ∷ []
-
 abbrev pub rules_of : Syntax → List Rule
-rules_of s = map place_rule s.places ++ map needed_rule s.needed ++ map option_rule s.valued ++ flag_rules s.flag
+rules_of s = map place_rule s.places ++ map needed_rule s.needed ++ map option_rule s.valued ++ map flag_rule s.flags
 
 -- the command of this name
 abbrev pub shape_of : (name : Text) → Syntax → Shape

@@ -32,14 +32,14 @@ pub record Syntax : Type 0 where
   pub places : List Text  -- what the arguments without an option's name are, in their order; each must be there
   pub needed : List Text  -- the options with a value that must be there
   pub valued : List Text  -- the options with a value that need not
-  pub flag : Option Text  -- the option without a value, if there is one
+  pub flags : List Text  -- the options without a value
 
 -- what must be there
 abbrev pub required_of : Syntax → List Text
 required_of s = s.places ++ s.needed
 
 -- a name that was used, with its text: an argument without an option's name stands under its place's name, an option under
--- its own, and the flag with `true`
+-- its own, and a flag with `true`
 abbrev pub Use : Type 0
 Use = Text × Text
 
@@ -47,7 +47,7 @@ abbrev pub takes_value : Syntax → Text → Bool
 takes_value s name = list_any (λ option. bytes_eq option name) (s.needed ++ s.valued)
 
 abbrev pub is_flag : Syntax → Text → Bool
-is_flag s name = option_map_or (λ flag. bytes_eq flag name) s.flag false
+is_flag s name = list_any (λ flag. bytes_eq flag name) s.flags
 
 -- the use, and then those that follow
 abbrev pub with_use : Use → Option (List Use) → Option (List Use)
@@ -80,9 +80,13 @@ uses_from s (word ∷ words) left waiting = word_uses s word left waiting (λ pl
 abbrev pub is_used : Text → List Use → Bool
 is_used name uses = list_any (λ u. bytes_eq u.0 name) uses
 
--- the syntax has a flag, and it is used
-abbrev pub has_flag : Syntax → List Use → Bool
-has_flag s uses = option_map_or (λ flag. is_used flag uses) s.flag false
+-- which flags are used
+abbrev pub flags_in : List Use → Text → Bool
+flags_in uses name = is_used name uses
+
+-- those of a command that has none
+abbrev pub no_flags : Text → Bool
+no_flags name = false
 
 -- no name is used twice
 abbrev pub is_once : List Use → Bool

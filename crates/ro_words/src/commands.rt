@@ -5,13 +5,15 @@ ghost use Rattle.clap.specs.Simple.{app_of, subcommand_of, subcommand_rows_of};
 ghost use Rattle.clap.specs.Values.{bool_text, kind_of};
 ghost use Rattle.clap.specs.Walk.{Row, first_of, one_of};
 ghost use Rattle.ro_settings.specs.Ranges.{InRange};
-ghost use Rattle.ro_words.specs.Commands.{AuditFits, Fits, asked_by, asked_run, audit_by, audit_given, audit_of, bench_given, command_of, inject_given, plain_given, plan_by, plan_given, races_given, refusal_of, run_by, run_given, suits_mode};
-ghost use Rattle.ro_words.specs.Uses.{is_word, texts_of};
+ghost use Rattle.ro_words.specs.Commands.{AuditFits, Fits, asked_by, asked_run, audit_by, audit_given, audit_of, audited_run, bench_given, command_of, inject_given, kept_of, plain_given, plan_by, plan_given, races_given, refusal_of, run_by, run_given, suits_mode};
+ghost use Rattle.ro_words.specs.Uses.{Text, is_word, no_flags, texts_of};
 ghost use Rattle.std.specs.List.{list_all};
 ghost use Rattle.std.specs.Prelude.{◌≡◌, ◌≢◌, ◌⊎◌, Bool, List, IfErr, IfOk, IfSome, None, Some, [], codes, drop, false, option_map, true};
 
 use crate::grammar::{audit_line, grammar};
-use crate::settings::{maybe_within, mode_for, number_in, settings_of, small_number_within};
+use crate::settings::{
+    Said, maybe_within, mode_for, number_in, said_in, settings_of, small_number_within,
+};
 use crate::shapes::are_words;
 use clap::ArgMatches;
 use clap::error::ErrorKind;
@@ -46,19 +48,50 @@ pub struct RunCommand<'a> {
     /// The name of the file with the faults, if there are any.
     pub faults: Option<&'a str>,
     pub settings: Settings,
-    /// Whether the journal is to be reported.
-    pub journal: bool,
+    /// What is to be reported of the journal.
+    pub kept: Kept,
+}
+
+/// What is to be reported of a run's journal.
+#[derive(Clone, Copy, PartialEq, Eq, Debug)]
+pub enum Kept {
+    Nothing,
+    /// The journal.
+    Journal,
+    /// The journal, with a head that says of what run it is.
+    Record,
 }
 
 /// A journal that is to be audited.
 #[derive(Clone, Copy, PartialEq, Eq, Debug)]
 pub struct AuditCommand<'a> {
-    /// The run that it is said to be of.
-    pub run: RunCommand<'a>,
+    /// The name of the executable.
+    pub executable: &'a str,
+    /// The name of the file with the input, if there is any.
+    pub input: Option<&'a str>,
+    /// The name of the file with the faults, if there are any.
+    pub faults: Option<&'a str>,
+    /// What is said of the run's settings.
+    pub said: Said,
     /// The name of the file with the journal.
     pub journal: &'a str,
     /// Whether JSON is asked for.
     pub json: bool,
+}
+
+impl<'a> AuditCommand<'a> {
+    /// The run of the audit's files with these settings.
+    pub fn run(&self, settings: Settings) -> RunCommand<'a>
+        ensures { run_by result ≡ audited_run (audit_by self.now) settings }
+    {
+        RunCommand {
+            executable: self.executable,
+            input: self.input,
+            faults: self.faults,
+            settings,
+            kept: Kept::Nothing,
+        }
+    }
 }
 
 /// The plan of a journal that is to be followed on the unreplicated machine.
@@ -166,17 +199,17 @@ fn matches_of<'a>(
 
 // The command that the matches ask for.
 fn command_in<'a>(matches: &ArgMatches<'a>) -> Option<Command<'a>>
-    ensures run { (rows : List Row) (journal : Bool) → subcommand_rows_of matches.now ≡ Some (codes "run", rows)
-        → one_of (codes "journal") rows ≡ Some (bool_text journal)
-        → option_map asked_by result ≡ run_given (λ name. first_of name rows) journal }
+    ensures run { (rows : List Row) (flags : Text → Bool) → subcommand_rows_of matches.now ≡ Some (codes "run", rows)
+        → one_of (codes "journal") rows ≡ Some (bool_text (flags (codes "journal"))) → one_of (codes "record") rows ≡ Some (bool_text (flags (codes "record")))
+        → option_map asked_by result ≡ run_given (λ name. first_of name rows) flags }
     ensures plain { (rows : List Row) → subcommand_rows_of matches.now ≡ Some (codes "plain", rows)
-        → option_map asked_by result ≡ plain_given (λ name. first_of name rows) false }
+        → option_map asked_by result ≡ plain_given (λ name. first_of name rows) no_flags }
     ensures races { (rows : List Row) → subcommand_rows_of matches.now ≡ Some (codes "races", rows)
-        → option_map asked_by result ≡ races_given (λ name. first_of name rows) false }
+        → option_map asked_by result ≡ races_given (λ name. first_of name rows) no_flags }
     ensures inject { (rows : List Row) → subcommand_rows_of matches.now ≡ Some (codes "inject", rows)
-        → option_map asked_by result ≡ inject_given (λ name. first_of name rows) false }
+        → option_map asked_by result ≡ inject_given (λ name. first_of name rows) no_flags }
     ensures bench { (rows : List Row) → subcommand_rows_of matches.now ≡ Some (codes "bench", rows)
-        → option_map asked_by result ≡ bench_given (λ name. first_of name rows) false }
+        → option_map asked_by result ≡ bench_given (λ name. first_of name rows) no_flags }
     ensures in_range { IfSome result (λ command. Fits (asked_by command)) }
 {
     if let Some(run) = matches.subcommand_matches("run") {
@@ -194,16 +227,29 @@ fn command_in<'a>(matches: &ArgMatches<'a>) -> Option<Command<'a>>
 
 // The run that the matches ask for.
 fn run_command<'a>(matches: &ArgMatches<'a>) -> Option<Command<'a>>
-    ensures asked { (journal : Bool) → one_text (found_of matches.now) (codes "journal") ≡ Some (bool_text journal)
-        → option_map asked_by result ≡ run_given (first_value (found_of matches.now)) journal }
+    ensures asked { (flags : Text → Bool) → one_text (found_of matches.now) (codes "journal") ≡ Some (bool_text (flags (codes "journal")))
+        → one_text (found_of matches.now) (codes "record") ≡ Some (bool_text (flags (codes "record")))
+        → option_map asked_by result ≡ run_given (first_value (found_of matches.now)) flags }
     ensures in_range { IfSome result (λ command. Fits (asked_by command)) }
 {
-    let journal = matches.get_flag("journal");
-    let run = run_in(matches, mode_for(matches)?, journal)?;
+    let run = run_in(matches, mode_for(matches)?, kept_in(matches)?)?;
     if suits_mode(&run) {
         Some(Command::Run(run))
     } else {
         None
+    }
+}
+
+// What is to be reported of the journal, where no more than one of the flags is given.
+fn kept_in(matches: &ArgMatches<'_>) -> Option<Kept>
+    ensures { (journal recorded : Bool) → one_text (found_of matches.now) (codes "journal") ≡ Some (bool_text journal)
+        → one_text (found_of matches.now) (codes "record") ≡ Some (bool_text recorded) → result ≡ kept_of journal recorded }
+{
+    match (matches.get_flag("journal"), matches.get_flag("record")) {
+        (false, false) => Some(Kept::Nothing),
+        (true, false) => Some(Kept::Journal),
+        (false, true) => Some(Kept::Record),
+        (true, true) => None,
     }
 }
 
@@ -221,9 +267,9 @@ fn suits_mode(run: &RunCommand<'_>) -> bool
 
 // The audit that the matches ask for.
 fn audit_in<'a>(matches: &ArgMatches<'a>) -> Option<AuditCommand<'a>>
-    ensures audit { (rows : List Row) (json : Bool) → subcommand_rows_of matches.now ≡ Some (codes "audit", rows)
-        → one_of (codes "json") rows ≡ Some (bool_text json)
-        → option_map audit_by result ≡ audit_given (λ name. first_of name rows) json }
+    ensures audit { (rows : List Row) (flags : Text → Bool) → subcommand_rows_of matches.now ≡ Some (codes "audit", rows)
+        → one_of (codes "json") rows ≡ Some (bool_text (flags (codes "json")))
+        → option_map audit_by result ≡ audit_given (λ name. first_of name rows) flags }
     ensures in_range { IfSome result (λ audit. AuditFits (audit_by audit)) }
 {
     audit_command(matches.subcommand_matches("audit")?)
@@ -231,20 +277,23 @@ fn audit_in<'a>(matches: &ArgMatches<'a>) -> Option<AuditCommand<'a>>
 
 // The same, of the words behind the command's name.
 fn audit_command<'a>(matches: &ArgMatches<'a>) -> Option<AuditCommand<'a>>
-    ensures asked { (json : Bool) → one_text (found_of matches.now) (codes "json") ≡ Some (bool_text json)
-        → option_map audit_by result ≡ audit_given (first_value (found_of matches.now)) json }
+    ensures asked { (flags : Text → Bool) → one_text (found_of matches.now) (codes "json") ≡ Some (bool_text (flags (codes "json")))
+        → option_map audit_by result ≡ audit_given (first_value (found_of matches.now)) flags }
     ensures in_range { IfSome result (λ audit. AuditFits (audit_by audit)) }
 {
     Some(AuditCommand {
-        run: run_in(matches, Mode::Voted, false)?,
+        executable: matches.get_str("exe")?,
+        input: matches.get_str("input"),
+        faults: matches.get_str("faults"),
+        said: said_in(matches)?,
         journal: matches.get_str("journal")?,
         json: matches.get_flag("json"),
     })
 }
 
-// The run in the mode of an executable that the matches name, with or without its journal.
-fn run_in<'a>(matches: &ArgMatches<'a>, mode: Mode, journal: bool) -> Option<RunCommand<'a>>
-    ensures asked { option_map run_by result ≡ asked_run (Some mode) (first_value (found_of matches.now)) journal }
+// The run in the mode of an executable that the matches name, of which so much is to be reported.
+fn run_in<'a>(matches: &ArgMatches<'a>, mode: Mode, kept: Kept) -> Option<RunCommand<'a>>
+    ensures asked { option_map run_by result ≡ asked_run (Some mode) (Some kept) (first_value (found_of matches.now)) }
     ensures in_range { IfSome result (λ run. InRange run.settings) }
     ensures in_mode { IfSome result (λ run. run.settings.mode ≡ mode) }
 {
@@ -253,13 +302,13 @@ fn run_in<'a>(matches: &ArgMatches<'a>, mode: Mode, journal: bool) -> Option<Run
         input: matches.get_str("input"),
         faults: matches.get_str("faults"),
         settings: settings_of(matches, mode)?,
-        journal,
+        kept,
     })
 }
 
 // The run of a plan that the matches ask for.
 fn plain_command<'a>(matches: &ArgMatches<'a>) -> Option<Command<'a>>
-    ensures asked { option_map asked_by result ≡ plain_given (first_value (found_of matches.now)) false }
+    ensures asked { option_map asked_by result ≡ plain_given (first_value (found_of matches.now)) no_flags }
     ensures in_range { IfSome result (λ command. Fits (asked_by command)) }
 {
     Some(Command::Plain(plan_command(matches)?))
@@ -267,7 +316,7 @@ fn plain_command<'a>(matches: &ArgMatches<'a>) -> Option<Command<'a>>
 
 // The search for a race that the matches ask for.
 fn races_command<'a>(matches: &ArgMatches<'a>) -> Option<Command<'a>>
-    ensures asked { option_map asked_by result ≡ races_given (first_value (found_of matches.now)) false }
+    ensures asked { option_map asked_by result ≡ races_given (first_value (found_of matches.now)) no_flags }
     ensures in_range { IfSome result (λ command. Fits (asked_by command)) }
 {
     Some(Command::Races(plan_command(matches)?))
@@ -286,7 +335,7 @@ fn plan_command<'a>(matches: &ArgMatches<'a>) -> Option<PlanCommand<'a>>
 
 // The draw that the matches ask for.
 fn inject_command<'a>(matches: &ArgMatches<'a>) -> Option<Command<'a>>
-    ensures asked { option_map asked_by result ≡ inject_given (first_value (found_of matches.now)) false }
+    ensures asked { option_map asked_by result ≡ inject_given (first_value (found_of matches.now)) no_flags }
     ensures in_range { IfSome result (λ command. Fits (asked_by command)) }
 {
     Some(Command::Inject(InjectCommand {
@@ -299,7 +348,7 @@ fn inject_command<'a>(matches: &ArgMatches<'a>) -> Option<Command<'a>>
 
 // The run of a made executable that the matches ask for.
 fn bench_command<'a>(matches: &ArgMatches<'a>) -> Option<Command<'a>>
-    ensures asked { option_map asked_by result ≡ bench_given (first_value (found_of matches.now)) false }
+    ensures asked { option_map asked_by result ≡ bench_given (first_value (found_of matches.now)) no_flags }
     ensures in_range { IfSome result (λ command. Fits (asked_by command)) }
 {
     Some(Command::Bench(BenchCommand {

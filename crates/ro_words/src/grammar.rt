@@ -45,7 +45,9 @@ fn run_grammar<'a>(alloc: Global) -> Result<Command<'a>, AllocError>
     let run = Command::new(alloc, "run")
         .arg(place(alloc, "exe"))?
         .arg(option(alloc, "mode"))?;
-    run_options(alloc, run)?.arg(flag(alloc, "journal"))
+    run_options(alloc, run)?
+        .arg(flag(alloc, "journal"))?
+        .arg(flag(alloc, "record"))
 }
 
 // `audit EXE --journal F` and its options.

@@ -49,8 +49,8 @@ pub record IsFound (files : Option Files) (words : List (List ℕ)) (came : Came
   pub asked : AskedAudit
   pub asked_is : audit_of words ≡ Some asked
   pub findings : Findings
-  pub found : IsAuditOf files asked.run asked.journal findings
-  pub asks : Asks came.calls_before came.calls_after (unfailed (audit_names asked.run asked.journal))
+  pub found : IsAuditOf files asked findings
+  pub asks : Asks came.calls_before came.calls_after (unfailed (audit_names asked))
   pub text : List ℕ
   pub verdict : asked.json ≡ false → TellsVerdict findings.verdict text
   pub told : Told

@@ -9,9 +9,9 @@ use ro_io::MemStore;
 use ro_journal::{Did, Entry, Lost};
 use ro_make::image_bytes;
 use ro_report::{Answer, JournalCode};
-use ro_settings::Settings;
+use ro_settings::SCRUB;
 use ro_tell::find;
-use ro_words::RunCommand;
+use ro_words::{AuditCommand, Said};
 use std::alloc::{AllocError, Global};
 use std::process::Abort;
 use std::test::Fail;
@@ -949,6 +949,27 @@ fn cooperative_journals_have_no_faults_and_no_scrubs(rt: HostRuntime) -> Result<
     Ok(())
 }
 
+const NOTHING_SAID: Said = Said {
+    replicas: None,
+    drivers: None,
+    watchdog: None,
+    quantum: None,
+    limit: None,
+    scrub: None,
+};
+
+// The audit of the journal of a run of the guest with the faults, of which this is said.
+fn audit_saying(said: Said) -> AuditCommand<'static> {
+    AuditCommand {
+        executable: "guest",
+        input: None,
+        faults: Some("faults"),
+        said,
+        journal: "journal",
+        json: false,
+    }
+}
+
 // The journal is refused at its first line beside these faults and scrubs.
 fn assert_unsuited(
     rt: &impl Abort,
@@ -962,19 +983,12 @@ fn assert_unsuited(
     store.put("guest", file.as_slice())?;
     store.put("faults", faults.as_bytes())?;
     store.put("journal", journal.as_bytes())?;
-    let settings = Settings {
-        scrub,
-        ..Settings::DEFAULT
-    };
-    assert!(rt; settings.is_in_range());
-    let run = RunCommand {
-        executable: "guest",
-        input: None,
-        faults: Some("faults"),
-        settings,
-        journal: false,
-    };
-    let Err(answer) = find(alloc, &run, "journal", &mut store) else {
+    assert!(rt; SCRUB.has(scrub));
+    let audit = audit_saying(Said {
+        scrub: Some(scrub),
+        ..NOTHING_SAID
+    });
+    let Err(answer) = find(alloc, &audit, &mut store) else {
         panic!(rt; "{journal} is audited");
     };
     let bad = Answer::BadPlan {
@@ -1014,19 +1028,11 @@ fn assert_found_in(
     store.put("guest", file)?;
     store.put("faults", faults.as_bytes())?;
     store.put("journal", journal.as_bytes())?;
-    let settings = Settings {
-        drivers: 1,
-        ..Settings::DEFAULT
-    };
-    assert!(rt; settings.is_in_range());
-    let run = RunCommand {
-        executable: "guest",
-        input: None,
-        faults: Some("faults"),
-        settings,
-        journal: false,
-    };
-    match find(alloc, &run, "journal", &mut store) {
+    let audit = audit_saying(Said {
+        drivers: Some(1),
+        ..NOTHING_SAID
+    });
+    match find(alloc, &audit, &mut store) {
         Ok(findings) => assert_told(rt, alloc, &findings, sentences, json),
         Err(answer) => panic!(rt; "{answer:?}"),
     }

@@ -1,8 +1,8 @@
 //! Rows of words.
 use ro_settings::{Mode, Settings};
 use ro_words::{
-    AuditCommand, BenchCommand, Command, InjectCommand, PlanCommand, RunCommand, WordsError,
-    parse_audit, parse_words,
+    AuditCommand, BenchCommand, Command, InjectCommand, Kept, PlanCommand, RunCommand, Said,
+    WordsError, parse_audit, parse_words,
 };
 
 // What the row's words spell.
@@ -16,7 +16,7 @@ const USUAL: RunCommand<'static> = RunCommand {
     input: None,
     faults: None,
     settings: Settings::DEFAULT,
-    journal: false,
+    kept: Kept::Nothing,
 };
 
 const SETTINGS: Settings = Settings::DEFAULT;
@@ -71,9 +71,16 @@ const COMMANDS: &[Row] = &[
         },
     },
     Row {
+        words: &["romain", "run", "--record", "p0"],
+        run: RunCommand {
+            kept: Kept::Record,
+            ..USUAL
+        },
+    },
+    Row {
         words: &["romain", "run", "--journal", "p0"],
         run: RunCommand {
-            journal: true,
+            kept: Kept::Journal,
             ..USUAL
         },
     },
@@ -90,7 +97,7 @@ const COMMANDS: &[Row] = &[
         run: RunCommand {
             input: Some("f"),
             faults: Some("g"),
-            journal: true,
+            kept: Kept::Journal,
             ..USUAL
         },
     },
@@ -210,7 +217,7 @@ const COMMANDS: &[Row] = &[
         ],
         run: RunCommand {
             settings: COOPERATIVE,
-            journal: true,
+            kept: Kept::Journal,
             ..USUAL
         },
     },
@@ -357,6 +364,11 @@ const NOT_COMMANDS: &[&[&str]] = &[
     &["romain", "run", "p0", "--input", "f", "--input", "g"],
     &["romain", "run", "p0", "--input", "f", "--input=f"],
     &["romain", "run", "p0", "--journal", "--journal"],
+    &["romain", "run", "p0", "--journal", "--record"],
+    &["romain", "run", "--record", "p0", "--journal"],
+    &["romain", "run", "p0", "--record", "--record"],
+    &["romain", "run", "p0", "--record=x"],
+    &["romain", "plain", "p0", "--plan", "j", "--record"],
     &["romain", "run", "p0", "--journal=x"],
     &["romain", "run", "p0", "--journal", "x"],
     &["romain", "run", "p0", "--replicas", "1"],
@@ -436,8 +448,20 @@ struct AuditRow {
     audit: AuditCommand<'static>,
 }
 
+const NOTHING_SAID: Said = Said {
+    replicas: None,
+    drivers: None,
+    watchdog: None,
+    quantum: None,
+    limit: None,
+    scrub: None,
+};
+
 const USUAL_AUDIT: AuditCommand<'static> = AuditCommand {
-    run: USUAL,
+    executable: "p0",
+    input: None,
+    faults: None,
+    said: NOTHING_SAID,
     journal: "j",
     json: false,
 };
@@ -454,12 +478,9 @@ const AUDITS: &[AuditRow] = &[
     AuditRow {
         words: &["romain", "audit", "--journal", "run", "audit"],
         audit: AuditCommand {
-            run: RunCommand {
-                executable: "audit",
-                ..USUAL
-            },
+            executable: "audit",
             journal: "run",
-            json: false,
+            ..USUAL_AUDIT
         },
     },
     AuditRow {
@@ -500,22 +521,18 @@ const AUDITS: &[AuditRow] = &[
             "1",
         ],
         audit: AuditCommand {
-            run: RunCommand {
-                input: Some("f"),
-                faults: Some("g"),
-                settings: Settings {
-                    mode: Mode::Voted,
-                    replicas: 5,
-                    drivers: 1,
-                    watchdog: 200,
-                    quantum: 7,
-                    limit: 500,
-                    scrub: 1,
-                },
-                ..USUAL
+            input: Some("f"),
+            faults: Some("g"),
+            said: Said {
+                replicas: Some(5),
+                drivers: Some(1),
+                watchdog: Some(200),
+                quantum: Some(7),
+                limit: Some(500),
+                scrub: Some(1),
             },
-            journal: "j",
             json: true,
+            ..USUAL_AUDIT
         },
     },
 ];
@@ -566,6 +583,7 @@ const NOT_AUDITS: &[&[&str]] = &[
     &["romain", "audit", "p0", "--journal", "j", "--json=true"],
     &["romain", "audit", "p0", "--journal", "j", "--json", "x"],
     &["romain", "audit", "p0", "--journal", "j", "q0"],
+    &["romain", "audit", "p0", "--journal", "j", "--record"],
     &["romain", "audit", "p0", "--journal", "j", "--plan", "k"],
     &["romain", "audit", "p0", "--journal", "j", "--mode", "vote"],
     &["romain", "audit", "p0", "--journal", "j", "--mode=coop"],

@@ -1,6 +1,8 @@
-use Rattle.std.proofs.Common.{rules, sym, ◌∙◌, ap, subst, arith}
+use Rattle.std.proofs.Common.{rules, refl, sym, ◌∙◌, ap, subst, arith}
 use Rattle.std.specs.Prelude.{option_map}
-use Rattle.ro_image.specs.Executable.{bad_code}
+use Rattle.ro_faults.specs.Texts.{file_faults}
+use Rattle.ro_image.specs.Executable.{bad_code, image_of}
+use Rattle.ro_legal.specs.Jobs.{job_of}
 use Rattle.ro_io.proofs.Fetches.{asks-none}
 use Rattle.ro_report.specs.declared.answers.FileKind.TheVariants.{Exe, Input, Faults}
 use Rattle.ro_words.specs.Commands.{run_by, to_run}
@@ -133,3 +135,23 @@ pub returns-clause-fit : goal.returns-clause-fit
 returns-clause-fit g c =
     let here = subst (IsContent _ Faults _) (sym c.as_slice-2.ensures.value) c.in_ok-list.ensures.content in
     is_fit _ (run_by c.args.command.now) c.in_ok-image.image c.in_ok-input.input.items c.as_slice-2.result.now c.in_ok-faults.faults.items c.requires.1 here c.in_ok-faults.ensures.faults
+
+pub returns-clause-job : goal.returns-clause-job
+returns-clause-job g c =
+    let told = c.fetch_named.ensures.told ∙ c.fetch.ensures.told in
+    let read = ap (file_faults c.args.command.now.settings.replicas) (sym c.as_slice-2.ensures.value) ∙ c.in_ok-faults.ensures.faults in
+    let image = c.in_ok-image.ensures.image ∙ ap image_of c.as_slice.ensures.value in (
+      record {
+        executable = c.in_ok-file.file.items;
+        executable_is = (c.in_ok-file.ensures.content, c.in_ok-file.ensures.short);
+        accepted = ap bad_code (sym c.as_slice.ensures.value) ∙ c.in_ok-image.ensures.accepted;
+        input = c.in_ok-input.input.items;
+        input_is = subst (λ t. IsContent t Input (option_map (λ n. n.now) c.args.command.now.input) c.in_ok-input.input.items) c.fetch.ensures.told c.in_ok-input.ensures.content;
+        list = c.in_ok-list.list.items;
+        list_is = subst (λ t. IsContent t Faults (option_map (λ n. n.now) c.args.command.now.faults) c.in_ok-list.list.items) told c.in_ok-list.ensures.content;
+        faults = c.in_ok-faults.faults.items;
+        faults_are = read;
+        job_is = ap (λ i. job_of i c.in_ok-input.input.items c.in_ok-faults.faults.items c.args.command.now.settings) image;
+      },
+      refl,
+    )

@@ -23,7 +23,7 @@ read c =
     let reads = c.audit_in.ensures in
     read_words audit_spoken (texts_of c.args.words.now) (app_of c.in_ok-audit_line.field-0) (subcommand_rows_of c.in_ok-matches.matches) _ c.in_ok-audit_line.ensures.0
     c.in_ok-matches.ensures.words c.in_ok-matches.ensures.parsed c.in_ok-matches.ensures.rows
-    (reads.audit, tt)
+    ((λ ends flags is used. reads.audit ends flags is used.0), tt)
 
 pub returns-clause-spelled : goal.returns-clause-spelled
 returns-clause-spelled c = given_ok audit_by c.audit_in.result c.ok_or.result _ c.ok_or.ensures.ok_part (read c)

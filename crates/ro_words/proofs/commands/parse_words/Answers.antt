@@ -23,7 +23,7 @@ read c =
     let reads = c.command_in.ensures in
     read_words all_spoken (texts_of c.args.words.now) (app_of c.in_ok-grammar.field-0) (subcommand_rows_of c.in_ok-matches.matches) _ c.in_ok-grammar.ensures.0
     c.in_ok-matches.ensures.words c.in_ok-matches.ensures.parsed c.in_ok-matches.ensures.rows
-    (reads.run, ((λ ends flag is used. reads.plain ends is), ((λ ends flag is used. reads.races ends is), ((λ ends flag is used. reads.inject ends is), ((λ ends flag is used. reads.bench ends is), tt)))))
+    ((λ ends flags is used. reads.run ends flags is used.0 used.1.0), ((λ ends flags is used. reads.plain ends is), ((λ ends flags is used. reads.races ends is), ((λ ends flags is used. reads.inject ends is), ((λ ends flags is used. reads.bench ends is), tt)))))
 
 pub returns-clause-spelled : goal.returns-clause-spelled
 returns-clause-spelled c = given_ok asked_by c.command_in.result c.ok_or.result _ c.ok_or.ensures.ok_part (read c)

@@ -317,7 +317,6 @@ fn conclude<C: AuditCore>(
 }
 
 // What is found of a legal journal.
-#[tactic(auto, using(crate::proofs::Splits::told_end))]
 fn legal(
     alloc: Global,
     audited: Audited,

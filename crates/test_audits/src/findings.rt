@@ -9,9 +9,8 @@ use ro_io::MemStore;
 use ro_journal::{Did, Entry, Lost};
 use ro_make::image_bytes;
 use ro_report::{Answer, JournalCode};
-use ro_settings::SCRUB;
 use ro_tell::find;
-use ro_words::{AuditCommand, Said};
+use ro_words::parse_audit;
 use std::alloc::{AllocError, Global};
 use std::process::Abort;
 use std::test::Fail;
@@ -943,31 +942,10 @@ fn cooperative_journals_have_no_faults_and_no_scrubs(rt: HostRuntime) -> Result<
         WAITS_AT_ITS_LOCK,
         "romain 2 coop\nfree\n",
     ] {
-        assert_unsuited(&rt, rt.alloc(), "1 0 1 reg 10 0\n", 0, journal)?;
-        assert_unsuited(&rt, rt.alloc(), "", 1, journal)?;
+        assert_unsuited(&rt, rt.alloc(), "1 0 1 reg 10 0\n", "0", journal)?;
+        assert_unsuited(&rt, rt.alloc(), "", "1", journal)?;
     }
     Ok(())
-}
-
-const NOTHING_SAID: Said = Said {
-    replicas: None,
-    drivers: None,
-    watchdog: None,
-    quantum: None,
-    limit: None,
-    scrub: None,
-};
-
-// The audit of the journal of a run of the guest with the faults, of which this is said.
-fn audit_saying(said: Said) -> AuditCommand<'static> {
-    AuditCommand {
-        executable: "guest",
-        input: None,
-        faults: Some("faults"),
-        said,
-        journal: "journal",
-        json: false,
-    }
 }
 
 // The journal is refused at its first line beside these faults and scrubs.
@@ -975,7 +953,7 @@ fn assert_unsuited(
     rt: &impl Abort,
     alloc: Global,
     faults: &str,
-    scrub: u64,
+    scrub: &str,
     journal: &str,
 ) -> Result<(), Fail> {
     let mut store = MemStore::new(alloc);
@@ -983,11 +961,20 @@ fn assert_unsuited(
     store.put("guest", file.as_slice())?;
     store.put("faults", faults.as_bytes())?;
     store.put("journal", journal.as_bytes())?;
-    assert!(rt; SCRUB.has(scrub));
-    let audit = audit_saying(Said {
-        scrub: Some(scrub),
-        ..NOTHING_SAID
-    });
+    let words = [
+        "romain",
+        "audit",
+        "guest",
+        "--faults",
+        "faults",
+        "--journal",
+        "journal",
+        "--scrub",
+        scrub,
+    ];
+    let Ok(audit) = parse_audit(alloc, &words) else {
+        panic!(rt; "the words spell an audit");
+    };
     let Err(answer) = find(alloc, &audit, &mut store) else {
         panic!(rt; "{journal} is audited");
     };
@@ -1028,10 +1015,20 @@ fn assert_found_in(
     store.put("guest", file)?;
     store.put("faults", faults.as_bytes())?;
     store.put("journal", journal.as_bytes())?;
-    let audit = audit_saying(Said {
-        drivers: Some(1),
-        ..NOTHING_SAID
-    });
+    let words = [
+        "romain",
+        "audit",
+        "guest",
+        "--faults",
+        "faults",
+        "--journal",
+        "journal",
+        "--drivers",
+        "1",
+    ];
+    let Ok(audit) = parse_audit(alloc, &words) else {
+        panic!(rt; "the words spell an audit");
+    };
     match find(alloc, &audit, &mut store) {
         Ok(findings) => assert_told(rt, alloc, &findings, sentences, json),
         Err(answer) => panic!(rt; "{answer:?}"),

@@ -1,12 +1,13 @@
-// Runs an executable of RV32IM alone, by the step of step.h: several passes one after another, each from a fresh state.
+// Runs an executable of RV32IM alone: several passes one after another, each from a fresh state.
 //
-//     plain EXE INPUT PASSES
+//     plain EXE INPUT PASSES          # by the step of step.h, which decodes each word anew
+//     plain EXE INPUT PASSES once     # by that of once.h
 //
 // Standard output gets what the last pass wrote, and the status is that of its exit. Standard error gets one line: the
 // instructions of one pass, its calls, and the nanoseconds of all passes, each from its first instruction to its exit. The
 // system calls are those of docs/GUESTS.md. There is one thread: a call of a function of POSIX threads fails, and so does
 // a trap.
-#include "step.h"
+#include "once.h"
 #include <elf.h>
 #include <inttypes.h>
 #include <stdio.h>
@@ -19,6 +20,8 @@ static const char *const NAMES_OF_CALLS[NAMES] = {"pthread_create", "pthread_joi
     "pthread_mutex_init", "pthread_mutex_destroy", "pthread_mutex_lock", "pthread_mutex_trylock", "pthread_mutex_unlock"};
 
 typedef struct { uint8_t *bytes; size_t length; } Bytes;
+
+typedef enum Did Run(Cpu *, Memory *, const Regions *, const Calls *, uint64_t, uint64_t *);
 
 typedef struct {
     Cpu cpu;
@@ -133,9 +136,12 @@ static Machine *open_machine(Bytes file, Bytes input) {
 }
 
 static void close_machine(Machine *machine) {
-    for (uint32_t page = 0; page < PAGES; page++)
+    for (uint32_t page = 0; page < PAGES; page++) {
         free(machine->memory.table[page]);
+        free(machine->memory.entries[page]);
+    }
     free(machine->memory.table);
+    free(machine->memory.entries);
     for (int kind = 0; kind < KINDS; kind++) {
         free(machine->memory.places[kind]);
         free(machine->regions.windows[kind]);
@@ -210,9 +216,9 @@ static uint32_t missing_page(const Machine *machine) {
     return (machine->cpu.x[word >> 15 & 31] + offset) / PAGE;
 }
 
-static void run_to_end(Machine *machine) {
+static void run_to_end(Machine *machine, Run *run) {
     while (!machine->ended) {
-        switch (run(&machine->cpu, &machine->memory, &machine->regions, &machine->calls, &machine->instructions)) {
+        switch (run(&machine->cpu, &machine->memory, &machine->regions, &machine->calls, UINT64_MAX, &machine->instructions)) {
         case CALL: serve(machine); break;
         case PAGE_FAULT: back(&machine->memory, missing_page(machine)); break;
         default: fail("a trap");
@@ -227,9 +233,10 @@ static int64_t now(void) {
 }
 
 int main(int argc, char **argv) {
-    long passes = argc == 4 ? strtol(argv[3], NULL, 10) : 0;
+    bool once = argc == 5 && !strcmp(argv[4], "once");
+    long passes = argc == 4 || once ? strtol(argv[3], NULL, 10) : 0;
     if (passes < 1)
-        fail("plain EXE INPUT PASSES");
+        fail("plain EXE INPUT PASSES [once]");
     Bytes file = read_file(argv[1]), input = read_file(argv[2]);
     if (file.length < sizeof(Elf32_Ehdr) || memcmp(file.bytes, ELFMAG "\1\1", 6))
         fail("the executable isn't of ELF32");
@@ -238,7 +245,7 @@ int main(int argc, char **argv) {
         Machine *machine = open_machine(file, input);
         machine->output = pass == passes ? stdout : NULL;
         int64_t start = now();
-        run_to_end(machine);
+        run_to_end(machine, once ? run_once_decoded : run);
         nanoseconds += now() - start;
         if (pass == passes) {
             fprintf(stderr, "%" PRIu64 " %" PRIu64 " %" PRId64 "\n", machine->instructions, machine->served, nanoseconds);

@@ -1,5 +1,5 @@
-// The loops of crates/ro_speed in plain C, by the step of step.h.
-#include "step.h"
+// The loops of crates/ro_speed in plain C: rv LOOP TURNS by the step of step.h, and rv LOOP TURNS once by that of once.h.
+#include "once.h"
 #include <inttypes.h>
 #include <stdio.h>
 #include <time.h>
@@ -12,7 +12,8 @@ static const uint32_t BYTES[] = {0x028303B3, 0x0283B4B3, 0x0FF4F513, 0x00A285B3,
 static const uint32_t WIDE[] = {0x000125B7, 0x01F37393, 0x00C39393, 0x00B383B3, 0x0003A403, 0x006404B3, 0x0093A023, 0xFFF30313, 0xFE0310E3, 0x00100073};
 
 int main(int argc, char **argv) {
-    if (argc != 3)
+    bool once = argc == 4 && !strcmp(argv[3], "once");
+    if (argc != 3 && !once)
         return 2;
     const uint32_t *words = !strcmp(argv[1], "mix") ? MIX : !strcmp(argv[1], "stack") ? STACK : !strcmp(argv[1], "wide") ? WIDE : BYTES;
     size_t size = words == MIX ? sizeof MIX : words == STACK ? sizeof STACK : words == WIDE ? sizeof WIDE : sizeof BYTES;
@@ -34,7 +35,7 @@ int main(int argc, char **argv) {
     uint64_t count = 0;
     struct timespec start, end;
     clock_gettime(CLOCK_MONOTONIC, &start);
-    run(&cpu, &memory, &regions, &calls, &count);
+    (once ? run_once_decoded : run)(&cpu, &memory, &regions, &calls, UINT64_MAX, &count);
     clock_gettime(CLOCK_MONOTONIC, &end);
     long long nanoseconds = (end.tv_sec - start.tv_sec) * 1000000000ll + (end.tv_nsec - start.tv_nsec);
     printf("%s %" PRIu64 " %" PRIu32 " %" PRIu32 " %lld\n", argv[1], count, cpu.x[8], cpu.x[9], nanoseconds);

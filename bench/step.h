@@ -1,6 +1,6 @@
 // A machine of RV32IM in plain C, as quick as a plain interpreter is: it decodes each word anew, keeps a stretch of code
 // that may be executed and has no call in it while the pc stays there, and checks the permission of each access by the
-// window of its page, with the exact test of each byte behind it. A page is kept as bytes.
+// window of its page, with the exact test of each byte behind it. A page is kept as bytes. once.h decodes each word once.
 #ifndef STEP_H
 #define STEP_H
 
@@ -13,7 +13,7 @@
 enum { PAGES = 1 << 20, PAGE = 4096, SEGMENTS = 32, STACKS = 16, RANGES = SEGMENTS + 1 + STACKS, NAMES = 9 };
 enum { HEAP_SIZE = 0x100000, STACKS_START = 0x70000000, STACK_STEP = 0x20000, STACK_SIZE = 0x10000, RETURNS_TO = 0x7FFFFFF0 };
 enum Kind { READ, WRITE, EXECUTE, KINDS };
-enum Did { DID, CALL, TRAP, PAGE_FAULT };
+enum Did { DID, CALL, TRAP, PAGE_FAULT, LIMIT };
 
 typedef struct { uint32_t x[32]; uint32_t pc; } Cpu;
 typedef struct { uint32_t start, length; bool allows[KINDS]; } Range;
@@ -22,7 +22,9 @@ typedef struct { Range ranges[RANGES]; Window *windows[KINDS]; } Regions;
 typedef struct { uint32_t addresses[NAMES]; uint64_t filter; } Calls;
 // What is known of a page for accesses of one kind: its bytes, and the window of those that are permitted; at first none.
 typedef struct { uint8_t *bytes; Window window; } Place;
-typedef struct { uint8_t **table; Place *places[KINDS]; } Memory;
+// What a word of code says, by once.h.
+typedef struct { uint8_t op, rd, rs1, rs2; uint32_t immediate; } Entry;
+typedef struct { uint8_t **table; Place *places[KINDS]; Entry **entries; } Memory;
 
 static bool permits_byte(const Regions *regions, uint64_t address, enum Kind kind) {
     for (int i = 0; i < RANGES; i++) {
@@ -105,6 +107,20 @@ static __attribute__((noinline, cold)) enum Did code_at(Memory *memory, const Re
     return DID;
 }
 
+static inline uint32_t mulh(uint32_t a, uint32_t b) { return (int64_t)(int32_t)a * (int32_t)b >> 32; }
+
+static inline uint32_t mulhsu(uint32_t a, uint32_t b) { return (int64_t)(int32_t)a * (int64_t)b >> 32; }
+
+static inline uint32_t mulhu(uint32_t a, uint32_t b) { return (uint64_t)a * b >> 32; }
+
+static inline uint32_t quotient(uint32_t a, uint32_t b) {
+    return !b ? ~0u : a == 0x80000000 && b == ~0u ? a : (uint32_t)((int32_t)a / (int32_t)b);
+}
+
+static inline uint32_t remainder_of(uint32_t a, uint32_t b) {
+    return !b ? a : a == 0x80000000 && b == ~0u ? 0 : (uint32_t)((int32_t)a % (int32_t)b);
+}
+
 #define RD (word >> 7 & 31)
 #define FUNCT3 (word >> 12 & 7)
 #define FUNCT7 (word >> 25)
@@ -118,15 +134,17 @@ static __attribute__((noinline, cold)) enum Did code_at(Memory *memory, const Re
 #define FIND(size, kind, address) do { if ((did = find(memory, regions, address, size, kind, &at))) goto stop; } while (0)
 #define STOP(why) do { did = (why); goto stop; } while (0)
 
-// Steps until one stops, adds to the count how many came before, and answers what it was that stopped. Each word is
-// decoded anew, by one jump on its opcode and one on what tells its instruction.
-static __attribute__((noinline)) enum Did run(Cpu *cpu, Memory *memory, const Regions *regions, const Calls *calls, uint64_t *count) {
+// Steps until one stops or so many are done, adds to the count how many were, and answers what it was that stopped. Each
+// word is decoded anew, by one jump on its opcode and one on what tells its instruction.
+static __attribute__((noinline)) enum Did run(Cpu *cpu, Memory *memory, const Regions *regions, const Calls *calls, uint64_t most, uint64_t *count) {
     uint32_t *x = cpu->x, pc = cpu->pc;
     Stretch code = {0};
-    uint64_t more = 0;
+    uint64_t left = most;
     uint8_t *at;
     enum Did did;
-    for (;; more++) {
+    for (;; left--) {
+        if (!left)
+            STOP(LIMIT);
         if (pc - code.from >= code.size && (did = code_at(memory, regions, calls, pc, &code)))
             goto stop;
         uint32_t word = load(code.bytes + (pc - code.from), 4), next = pc + 4, target;
@@ -210,12 +228,12 @@ static __attribute__((noinline)) enum Did run(Cpu *cpu, Memory *memory, const Re
             case 6: x[RD] = A | B; break;
             case 7: x[RD] = A & B; break;
             case 8: x[RD] = A * B; break;
-            case 9: x[RD] = (int64_t)(int32_t)A * (int32_t)B >> 32; break;
-            case 10: x[RD] = (int64_t)(int32_t)A * (int64_t)B >> 32; break;
-            case 11: x[RD] = (uint64_t)A * B >> 32; break;
-            case 12: x[RD] = !B ? ~0u : A == 0x80000000 && B == ~0u ? A : (uint32_t)((int32_t)A / (int32_t)B); break;
+            case 9: x[RD] = mulh(A, B); break;
+            case 10: x[RD] = mulhsu(A, B); break;
+            case 11: x[RD] = mulhu(A, B); break;
+            case 12: x[RD] = quotient(A, B); break;
             case 13: x[RD] = !B ? ~0u : A / B; break;
-            case 14: x[RD] = !B ? A : A == 0x80000000 && B == ~0u ? 0 : (uint32_t)((int32_t)A % (int32_t)B); break;
+            case 14: x[RD] = remainder_of(A, B); break;
             case 15: x[RD] = !B ? A : A % B; break;
             case 0x20 << 3: x[RD] = A - B; break;
             case 0x20 << 3 | 5: x[RD] = (int32_t)A >> (B & 31); break;
@@ -234,13 +252,13 @@ static __attribute__((noinline)) enum Did run(Cpu *cpu, Memory *memory, const Re
     }
 stop:
     cpu->pc = pc;
-    *count += more;
+    *count += most - left;
     return did;
 }
 
 // A memory with no page.
 static Memory new_memory(void) {
-    Memory memory = {calloc(PAGES, sizeof(uint8_t *)), {0}};
+    Memory memory = {calloc(PAGES, sizeof(uint8_t *)), {0}, calloc(PAGES, sizeof(Entry *))};
     for (int kind = 0; kind < KINDS; kind++)
         memory.places[kind] = calloc(PAGES, sizeof(Place));
     return memory;

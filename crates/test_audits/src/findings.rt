@@ -934,26 +934,27 @@ fn a_lease_that_is_taken_before_a_vote(rt: HostRuntime) -> Result<(), Fail> {
     )
 }
 
-// The first line of a cooperative run's journal is bad where there are faults or scrubs, whatever stands behind it.
+// The first line of a cooperative run's journal is bad where there are faults or scrubs, and no line behind it is bad.
 #[test]
 fn cooperative_journals_have_no_faults_and_no_scrubs(rt: HostRuntime) -> Result<(), Fail> {
-    for journal in [
-        "romain 2 coop\n",
-        WAITS_AT_ITS_LOCK,
-        "romain 2 coop\nfree\n",
+    for (line, journal) in [
+        (1, "romain 2 coop\n"),
+        (1, WAITS_AT_ITS_LOCK),
+        (2, "romain 2 coop\nfree\n"),
     ] {
-        assert_unsuited(&rt, rt.alloc(), "1 0 1 reg 10 0\n", "0", journal)?;
-        assert_unsuited(&rt, rt.alloc(), "", "1", journal)?;
+        assert_unsuited(&rt, rt.alloc(), "1 0 1 reg 10 0\n", "0", line, journal)?;
+        assert_unsuited(&rt, rt.alloc(), "", "1", line, journal)?;
     }
     Ok(())
 }
 
-// The journal is refused at its first line beside these faults and scrubs.
+// The journal is refused at this line beside these faults and scrubs.
 fn assert_unsuited(
     rt: &impl Abort,
     alloc: Global,
     faults: &str,
     scrub: &str,
+    line: u64,
     journal: &str,
 ) -> Result<(), Fail> {
     let mut store = MemStore::new(alloc);
@@ -979,7 +980,7 @@ fn assert_unsuited(
         panic!(rt; "{journal} is audited");
     };
     let bad = Answer::BadPlan {
-        line: 1,
+        line,
         code: JournalCode::Form,
     };
     assert_eq!(rt; answer, bad, "of {journal}");
